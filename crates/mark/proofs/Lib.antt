@@ -1,0 +1,8 @@
+mod Byte
+pub mod Choices
+pub mod Counts
+pub mod Fields
+pub mod FirstEmpty
+pub mod OneAnswer
+pub mod Slots
+pub mod WellFormed

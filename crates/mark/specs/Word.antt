@@ -1,0 +1,59 @@
+-- The mark word of a bucket, in plain arithmetic. "Marks: 0 empty, 1 valid, 2 being inserted." Quotations are document 01's.
+use Prim.Native.Nat.{ℕ, _+_, _-_, _*_, _/_, _%_, _^_}
+use mathlib.Core.Bool.{Bool, cond, _&&_}
+use lib.Dec.{eqb, leb, ltb}
+
+-- "the version is the low 32 bits"
+unfoldable pub version : ℕ → ℕ
+version word = word % 2 ^ 32
+
+-- what a mark of one weighs in the word: 2^32 at slot 0, 2^40 at slot 1, 2^48 at slot 2
+abbrev pub unit : ℕ → ℕ
+unit slot = 2 ^ (32 + 8 * slot)
+
+-- "the marks of slots 0, 1 and 2 stand in bytes 4, 5 and 6"; any other number names no slot, and its mark reads as 0
+unfoldable pub markOf : ℕ → ℕ → ℕ
+markOf word slot = cond (ltb slot 3) (word / unit slot % 256) 0
+
+-- byte 7 of a 64-bit word: what stands above the marks
+unfoldable pub byte7 : ℕ → ℕ
+byte7 word = word / 2 ^ 56
+
+-- "word = version + 2^32 m0 + 2^40 m1 + 2^48 m2"
+unfoldable pub wordOf : ℕ → ℕ → ℕ → ℕ → ℕ
+wordOf v m0 m1 m2 = v + 2 ^ 32 * m0 + 2 ^ 40 * m1 + 2 ^ 48 * m2
+
+-- the word with another mark at a slot; of a number that names no slot nothing is set
+unfoldable pub setMark : ℕ → ℕ → ℕ → ℕ
+setMark word slot mark = cond (ltb slot 3) (word - markOf word slot * unit slot + mark * unit slot) word
+
+-- "the version part plus one, 4,294,967,295 going to 0"
+abbrev pub nextVersion : ℕ → ℕ
+nextVersion v = (v + 1) % 2 ^ 32
+
+-- the word with the next version
+unfoldable pub bump : ℕ → ℕ
+bump word = word - version word + nextVersion (version word)
+
+-- "slot the first whose mark in word is 0", or 3 where there is none
+unfoldable pub firstEmpty : ℕ → ℕ
+firstEmpty word =
+    cond (eqb (markOf word 0) 0) 0
+    (cond (eqb (markOf word 1) 0) 1
+    (cond (eqb (markOf word 2) 0) 2 3))
+
+-- no mark is over 2, and byte 7 is 0
+unfoldable pub wellFormed : ℕ → Bool
+wellFormed word = leb (markOf word 0) 2 && (leb (markOf word 1) 2 && (leb (markOf word 2) 2 && eqb (byte7 word) 0))
+
+-- a number for each of the three marks, added up
+unfoldable pub sumMarks : (ℕ → ℕ) → ℕ → ℕ
+sumMarks f word = f (markOf word 0) + f (markOf word 1) + f (markOf word 2)
+
+-- 1 if a mark is n, else 0
+abbrev pub isMark : ℕ → ℕ → ℕ
+isMark n mark = cond (eqb mark n) 1 0
+
+-- how many of the three marks are n
+unfoldable pub countMarks : ℕ → ℕ → ℕ
+countMarks n word = sumMarks (isMark n) word

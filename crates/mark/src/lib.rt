@@ -1,0 +1,93 @@
+// The mark word of a bucket: one 64-bit word that holds the version and the three slots' marks.
+// A slot is 0, 1 or 2. Any other number names no slot: its mark reads as 0, and setting it changes nothing.
+ghost use mathlib.Core.Path.{_≡_};
+ghost use Prim.Native.Nat.{_+_, _*_};
+ghost use Rattle.mark.specs.Word.{version, markOf, setMark, nextVersion, bump, firstEmpty, wellFormed};
+
+// Marks: 0 empty, 1 valid, 2 being inserted.
+pub const EMPTY: u8 = 0;
+
+pub const VALID: u8 = 1;
+
+pub const BEING_INSERTED: u8 = 2;
+
+// What stands for a slot where there is none, as in a record's held.
+pub const NO_SLOT: u8 = 3;
+
+// How far a slot's mark stands from the low end, in bits.
+fn mark_shift(slot: u8) -> u32
+    ensures { λ r. ⌜ r ≡ 32 + 8 * slot ⌝ }
+{
+    32 + 8 * (slot as u32)
+}
+
+pub fn mark_of(word: u64, slot: u8) -> u8
+    ensures { λ r. ⌜ r ≡ markOf word slot ⌝ }
+{
+    if slot >= NO_SLOT {
+        return EMPTY;
+    }
+    ((word >> mark_shift(slot)) & 255) as u8
+}
+
+pub fn with_mark(word: u64, slot: u8, mark: u8) -> u64
+    ensures { λ r. ⌜ r ≡ setMark word slot mark ⌝ }
+{
+    if slot >= NO_SLOT {
+        return word;
+    }
+    let shift = mark_shift(slot);
+    (word & !(255u64 << shift)) | ((mark as u64) << shift)
+}
+
+pub fn version_of(word: u64) -> u32
+    ensures { λ r. ⌜ r ≡ version word ⌝ }
+{
+    (word & 4294967295) as u32
+}
+
+// "the version part plus one, 4,294,967,295 going to 0"
+fn next_version(version: u32) -> u32
+    ensures { λ r. ⌜ r ≡ nextVersion version ⌝ }
+{
+    std::num::wrapping_add_u32(version, 1)
+}
+
+// The word that a commit leaves, but for the mark: the next version, and all else as it was.
+pub fn with_next_version(word: u64) -> u64
+    ensures { λ r. ⌜ r ≡ bump word ⌝ }
+{
+    ((word >> 32) << 32) | (next_version(version_of(word)) as u64)
+}
+
+// The first slot whose mark is 0, or no slot.
+pub fn first_empty(word: u64) -> u8
+    ensures { λ r. ⌜ r ≡ firstEmpty word ⌝ }
+{
+    if mark_of(word, 0) == EMPTY {
+        return 0;
+    }
+    if mark_of(word, 1) == EMPTY {
+        return 1;
+    }
+    if mark_of(word, 2) == EMPTY {
+        return 2;
+    }
+    NO_SLOT
+}
+
+// Each mark is at most 2, and byte 7 is zero.
+pub fn is_well_formed(word: u64) -> bool
+    ensures { λ r. ⌜ r ≡ wellFormed word ⌝ }
+{
+    if mark_of(word, 0) > BEING_INSERTED {
+        return false;
+    }
+    if mark_of(word, 1) > BEING_INSERTED {
+        return false;
+    }
+    if mark_of(word, 2) > BEING_INSERTED {
+        return false;
+    }
+    word >> 56 == 0
+}
