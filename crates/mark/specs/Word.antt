@@ -1,4 +1,5 @@
--- The mark word of a bucket, in plain arithmetic. "Marks: 0 empty, 1 valid, 2 being inserted." Quotations are document 01's.
+-- The mark word of a bucket, in plain arithmetic. "Marks: 0 empty, 1 valid, 2 being inserted."
+-- Quotations are document 01's, and figure 5 is the report's.
 use Prim.Native.Nat.{ℕ, _+_, _-_, _*_, _/_, _%_, _^_}
 use mathlib.Core.Bool.{Bool, cond, _&&_}
 use lib.Dec.{eqb, leb, ltb}
@@ -23,7 +24,7 @@ byte7 word = word / 2 ^ 56
 unfoldable pub wordOf : ℕ → ℕ → ℕ → ℕ → ℕ
 wordOf v m0 m1 m2 = v + 2 ^ 32 * m0 + 2 ^ 40 * m1 + 2 ^ 48 * m2
 
--- the word with another mark at a slot; of a number that names no slot nothing is set
+-- the word with another mark at a slot (figure 5, snap_set_map); a number that names no slot sets nothing
 unfoldable pub setMark : ℕ → ℕ → ℕ → ℕ
 setMark word slot mark = cond (ltb slot 3) (word - markOf word slot * unit slot + mark * unit slot) word
 
@@ -31,11 +32,11 @@ setMark word slot mark = cond (ltb slot 3) (word - markOf word slot * unit slot 
 abbrev pub nextVersion : ℕ → ℕ
 nextVersion v = (v + 1) % 2 ^ 32
 
--- the word with the next version
+-- the word with the next version (figure 5, snap_set_map_and_inc_version, which sets a mark too)
 unfoldable pub bump : ℕ → ℕ
 bump word = word - version word + nextVersion (version word)
 
--- "slot the first whose mark in word is 0", or 3 where there is none
+-- "slot the first whose mark in word is 0" (figure 5, snap_get_empty_index), or 3 where there is none
 unfoldable pub firstEmpty : ℕ → ℕ
 firstEmpty word =
     cond (eqb (markOf word 0) 0) 0
