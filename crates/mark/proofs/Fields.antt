@@ -51,18 +51,18 @@ same-fields v w of-version of-mark of-byte7 =
     sym (fields v) ∙ simp (of-version, of-mark 0 (omega arith), of-mark 1 (omega arith), of-mark 2 (omega arith), of-byte7) (fields w)
 
 -- the fields of such a sum are its parts
-module _ (v a b c : ℕ) (hv : v < 2 ^ 32) (ha : a < 256) (hb : b < 256) (hc : c < 256) where
-  pub version-word : version (wordOf v a b c) ≡ v
+module _ (v m0 m1 m2 : ℕ) (version-fits : v < 2 ^ 32) (byte0 : m0 < 256) (byte1 : m1 < 256) (byte2 : m2 < 256) where
+  pub version-word : version (wordOf v m0 m1 m2) ≡ v
   unfolding version wordOf
   version-word = omega arith
 
-  pub mark-word : (i : ℕ) → markOf (wordOf v a b c) i ≡ getD (a ∷ b ∷ c ∷ []) i 0
+  pub mark-word : (i : ℕ) → markOf (wordOf v m0 m1 m2) i ≡ getD (m0 ∷ m1 ∷ m2 ∷ []) i 0
   unfolding markOf wordOf
   mark-word =
-      slots (λ (i : ℕ). markOf (wordOf v a b c) i ≡ getD (a ∷ b ∷ c ∷ []) i 0) (omega arith) (omega arith) (omega arith)
-      (λ i past. mark-past (wordOf v a b c) i past ∙ sym (List·getD-eq-default (a ∷ b ∷ c ∷ []) 0 past))
+      slots (λ (i : ℕ). markOf (wordOf v m0 m1 m2) i ≡ getD (m0 ∷ m1 ∷ m2 ∷ []) i 0) (omega arith) (omega arith) (omega arith)
+      (λ i past. mark-past (wordOf v m0 m1 m2) i past ∙ sym (List·getD-eq-default (m0 ∷ m1 ∷ m2 ∷ []) 0 past))
 
-  pub byte7-word : byte7 (wordOf v a b c) ≡ 0
+  pub byte7-word : byte7 (wordOf v m0 m1 m2) ≡ 0
   unfolding byte7 wordOf
   byte7-word = omega arith
 

@@ -1,5 +1,4 @@
 use borrow.Author.Needs.{needs}
-use mathlib.Core.Path.{refl}
 use Rattle.mark.specs.Word.{byte7, wellFormed}
 use Rattle.mark.proofs.Choices.{choices}
 use Rattle.mark.proofs.is_well_formed.Statement.{statement}
