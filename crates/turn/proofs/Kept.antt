@@ -1,0 +1,158 @@
+-- An accepted turn leaves a bucket and a record that are not broken, and a start leaves such a record. Assumes nothing.
+use Prim.Native.Nat.{ℕ, _≤_}
+use mathlib.Core.Bool.{Bool, true, false, and-eq-true-iff}
+use mathlib.Core.Path.{_≡_, refl, _∙_}
+use mathlib.Core.List.{List}
+use mathlib.Core.Logic.{_⊎_, inl, inr}
+use native.Mathlib.Omega.{arith}
+use lib.Dec.{eqb}
+use lib.ListN.{set, length-set}
+use lib.Seq.{getD-set-same, getD-set-other}
+use borrow.Author.Tests.{eqb-true, ne-eqb, le-leb}
+use Rattle.mark.specs.Word.{markOf, byte7, setMark, wellFormed}
+use Rattle.mark.proofs.Choices.{by-cases}
+use Rattle.mark.proofs.WellFormed.{well-formed-set, well-formed-bump}
+use Rattle.turn.specs.declared.Worker.{Worker}
+use Rattle.turn.specs.Worker.{idle, lookFor, insertOf, removeOf, isIdle, ticketFits, wordFits, broken}
+use Rattle.turn.specs.Bucket.{markCell, spareCell}
+use Rattle.turn.specs.Places.{Step, turn}
+use Rattle.turn.proofs.Sound.{Sound, Whole, Accepted, sound-not-broken}
+use Rattle.turn.proofs.Works.{Works, looking, inserting, filling, beginning, works-stands, works-held}
+use Rattle.turn.proofs.Lands.{Lands, reads, goes, answers, claims, commits, frees, closes}
+use Rattle.turn.proofs.Landing.{turn-lands}
+
+-- ---- idle records
+
+fields-idle :
+    (k p l t s m h v : ℕ)
+    → k ≡ 0
+    → p ≡ 0
+    → l ≡ 0
+    → t ≡ 0
+    → s ≡ 0
+    → m ≡ 0
+    → h ≡ 3
+    → v ≡ 0
+    → _≡_ {A = Worker} (record { kind = k; place = p; key = l; ticket = t; slot = s; word = m; held = h; seen = v }) idle
+fields-idle k p l t s m h v e1 e2 e3 e4 e5 e6 e7 e8 = cc
+
+-- the test of idle says that the record is the idle one
+pub idle-is : (w : Worker) → isIdle w ≡ true → w ≡ idle
+unfolding isIdle
+idle-is w is =
+    let a = and-eq-true-iff (eqb (w .kind) 0) _ .0 is in
+    let b = and-eq-true-iff (eqb (w .place) 0) _ .0 (a .1) in
+    let c = and-eq-true-iff (eqb (w .key) 0) _ .0 (b .1) in
+    let d = and-eq-true-iff (eqb (w .ticket) 0) _ .0 (c .1) in
+    let e = and-eq-true-iff (eqb (w .slot) 0) _ .0 (d .1) in
+    let f = and-eq-true-iff (eqb (w .word) 0) _ .0 (e .1) in
+    let g = and-eq-true-iff (eqb (w .held) 3) (eqb (w .seen) 0) .0 (f .1) in
+    let zero : (n : ℕ) → eqb n 0 ≡ true → n ≡ 0 = λ n is. eqb-true n 0 is in
+    fields-idle _ _ _ _ _ _ _ _ (zero _ (a .0)) (zero _ (b .0)) (zero _ (c .0)) (zero _ (d .0)) (zero _ (e .0)) (zero _ (f .0))
+    (eqb-true _ 3 (g .0)) (zero _ (g .1))
+
+-- the idle record passes it
+pub is-idle : isIdle idle ≡ true
+unfolding isIdle
+is-idle = refl
+
+-- and is not broken
+pub idle-kept : broken idle ≡ false
+unfolding broken isIdle
+idle-kept = refl
+
+-- ---- sound records
+
+-- a record is sound where kind, place and held go together and the rest fits
+pub sound-of :
+    (w : Worker)
+    → Works (w .kind) (w .place) (w .held)
+    → ticketFits (w .kind) (w .ticket) ≡ true
+    → w .slot ≤ 2
+    → wordFits (w .kind) (w .word) ≡ true
+    → Sound w
+sound-of w fits ticket slot word =
+    record { stands = works-stands _ _ _ fits; ticket = ticket; held = works-held _ _ _ fits; slot = slot; word = word }
+
+blank-fits : (k : ℕ) → wordFits k 0 ≡ true
+unfolding wordFits wellFormed markOf byte7
+blank-fits k = by-cases (λ (t : Bool). t ≡ true) (eqb k 1) _ _ (λ is. refl) (λ isnot. refl)
+
+-- ---- the three records that a start leaves are not broken
+
+pub look-kept : (lot : ℕ) → broken (lookFor lot) ≡ false
+unfolding ticketFits
+look-kept lot =
+    sound-not-broken _ (sound-of (lookFor lot) (looking refl (omega arith) (omega arith) refl) refl (omega arith) (blank-fits _))
+
+pub insert-kept : (lot t : ℕ) → 1 ≤ t → broken (insertOf lot t) ≡ false
+unfolding ticketFits
+insert-kept lot t some =
+    sound-not-broken _
+    (sound-of (insertOf lot t) (inserting refl (omega arith) (omega arith) (omega arith)) (le-leb 1 t some) (omega arith) (blank-fits _))
+
+pub remove-kept : (lot : ℕ) → broken (removeOf lot) ≡ false
+unfolding ticketFits
+remove-kept lot = sound-not-broken _ (sound-of (removeOf lot) (beginning refl refl refl) refl (omega arith) (blank-fits _))
+
+-- ---- an accepted turn
+
+module _ (b : List ℕ) (w : Worker) (ok : Accepted b w) where
+  read-formed : (w .kind ≡ 1 → ⊥) → wellFormed (w .word) ≡ true
+  unfolding wordFits
+  read-formed other = rw (ne-eqb (w .kind) 1 other) at (ok .sound .word)
+
+  marked : (i m : ℕ) → (w .kind ≡ 1 → ⊥) → m ≤ 2 → wellFormed (setMark (w .word) i m) ≡ true
+  marked i m other known = well-formed-set (w .word) (read-formed other) i m known
+
+  set-whole : (m : ℕ) → wellFormed m ≡ true → Whole (set b markCell m)
+  set-whole m formed =
+      let eight = ok .whole .eight in
+      record {
+        eight = length-set b markCell m ∙ eight;
+        formed = rw (getD-set-same b markCell m 0 (omega arith)) formed;
+        spare = getD-set-other b markCell spareCell m 0 (omega arith) ∙ ok .whole .spare;
+      }
+
+  lands-whole : {s : Step} → Lands b w s → Whole (s .bucket)
+  lands-whole (reads p place other from fits aims) = ok .whole
+  lands-whole (goes a full p s v c none same from fits slot aims) =
+      let old = ok .whole in
+      record { eight = same .long ∙ old .eight; formed = rw (same .mark) (old .formed); spare = same .spare ∙ old .spare }
+  lands-whole (answers answer held) = ok .whole
+  lands-whole (claims kind place held is) = set-whole _ (marked (w .slot) 2 (omega arith) (omega arith))
+  lands-whole (commits kind place held is) =
+      set-whole _ (rw well-formed-bump (well-formed-set _ (marked (w .held) 2 (omega arith) (omega arith)) (w .held) 1 (omega arith)))
+  lands-whole (frees kind place held) = set-whole _ (well-formed-set _ (ok .whole .formed) (w .held) 0 (omega arith))
+  lands-whole (closes kind place held is) = set-whole _ (marked (w .slot) 0 (omega arith) (omega arith))
+
+  -- the bucket that a turn leaves is not broken
+  pub turn-whole : Whole (turn b w .bucket)
+  turn-whole = lands-whole (turn-lands b w ok)
+
+  lands-kept : {s : Step} → Lands b w s → Sound (s .stepped .worker) ⊎ (s .stepped .worker ≡ idle)
+  unfolding wordFits
+  lands-kept (reads p place other from fits aims) =
+      inl (sound-of _ fits (ok .sound .ticket) (omega arith) (rw (ne-eqb (w .kind) 1 other) (ok .whole .formed)))
+  lands-kept (goes a full p s v c none same from fits slot aims) = inl (sound-of _ fits (ok .sound .ticket) slot (ok .sound .word))
+  lands-kept (answers answer held) = inr refl
+  lands-kept (claims kind place held is) =
+      let few = ok .sound .slot in
+      let other : w .kind ≡ 1 → ⊥ = omega arith in
+      inl (sound-of _ (filling kind (omega arith) (omega arith) few) (ok .sound .ticket) few
+      (rw (ne-eqb (w .kind) 1 other) (marked (w .slot) 2 other (omega arith))))
+  lands-kept (commits kind place held is) = inr refl
+  lands-kept (frees kind place held) = inr refl
+  lands-kept (closes kind place held is) = inr refl
+
+  -- the record that a turn leaves is sound, or the idle one
+  pub turn-kept : Sound (turn b w .stepped .worker) ⊎ (turn b w .stepped .worker ≡ idle)
+  turn-kept = lands-kept (turn-lands b w ok)
+
+  -- and so not broken
+  pub turn-sound : broken (turn b w .stepped .worker) ≡ false
+  turn-sound = kept _ turn-kept
+    where
+      kept : (w : Worker) → Sound w ⊎ (w ≡ idle) → broken w ≡ false
+      kept w (inl s) = sound-not-broken w s
+      kept w (inr is) = rw is idle-kept

@@ -1,0 +1,83 @@
+-- The outcomes that an accepted turn can have, each with the facts of its places. Assumes nothing.
+use Prim.Native.Nat.{ℕ, _≤_, _<_}
+use mathlib.Core.Bool.{Bool, false}
+use mathlib.Core.Path.{_≡_}
+use mathlib.Core.List.{List}
+use native.Mathlib.Omega.{arith}
+use lib.ListN.{length, set}
+use Rattle.mark.specs.Word.{markOf, setMark}
+use Rattle.turn.specs.declared.Worker.{Worker}
+use Rattle.turn.specs.declared.Action.{Action}
+use Rattle.turn.specs.declared.Action.the-variants.{Read, Store, Won}
+use Rattle.turn.specs.Worker.{readWord, claimed}
+use Rattle.turn.specs.Bucket.{cell, markCell, spareCell}
+use Rattle.turn.specs.Effects.{none, effectOf}
+use Rattle.turn.specs.Places.{Step, leaves, goesOn, ends, claim, filled, commit, close}
+use Rattle.turn.proofs.Works.{Works}
+
+-- what a worker at a swap found: its slot empty in the word that it read, or valid there
+pub record Aimed (w : Worker) : Type 0 where
+  pub at-claim : w .place ≡ 6 → markOf (w .word) (w .slot) ≡ 0
+  pub at-close : 12 ≤ w .place → w .place ≤ 13 → markOf (w .word) (w .slot) ≡ 1
+
+-- at any other place there is nothing to aim at
+pub elsewhere : (w : Worker) → (w .place ≡ 6 → ⊥) × (w .place < 12) → Aimed w
+elsewhere w other = record { at-claim = λ is. absurd (other .0 is); at-close = λ from to. absurd (omega arith) }
+
+-- the record at another place and slot, with another value seen: all that a turn changes which leaves the mark word alone
+abbrev pub moved : ℕ → ℕ → ℕ → Worker → Worker
+moved p s v w = record { kind = w .kind; place = p; key = w .key; ticket = w .ticket; slot = s; word = w .word; held = w .held; seen = v }
+
+-- a bucket of the same length with the same mark word and spare word
+pub record Same (b c : List ℕ) : Type 0 where
+  pub long : length c ≡ length b
+  pub mark : cell c markCell ≡ cell b markCell
+  pub spare : cell c spareCell ≡ cell b spareCell
+
+-- what a turn of worker w on bucket b leaves
+pub data Lands (b : List ℕ) (w : Worker) : Step → Type 0 where
+  -- the mark word is read, and an insert or a remove begins its round
+  reads :
+      (p : ℕ)
+      → w .place ≡ 1
+      → (w .kind ≡ 1 → ⊥)
+      → 2 ≤ p
+      → Works (w .kind) p (w .held)
+      → Aimed (readWord p (cell b markCell) w)
+      → Lands b w (leaves b (goesOn Read false (readWord p (cell b markCell) w)))
+  -- a read, a store beside the mark word or a lost swap, and the call goes on
+  goes :
+      (a : Action) (full : Bool) (p s v : ℕ) (c : List ℕ)
+      → effectOf w a ≡ none
+      → Same b c
+      → 2 ≤ w .place
+      → Works (w .kind) p (w .held)
+      → s ≤ 2
+      → (Aimed w → Aimed (moved p s v w))
+      → Lands b w (leaves c (goesOn a full (moved p s v w)))
+  -- a read ends the call
+  answers : (answer : ℕ) → w .held ≡ 3 → Lands b w (leaves b (ends Read answer))
+  -- the won swaps of places 6, 9 and 13, and the store of place 10
+  claims :
+      w .kind ≡ 2
+      → w .place ≡ 6
+      → w .held ≡ 3
+      → cell b markCell ≡ w .word
+      → Lands b w (leaves (set b markCell (claim w)) (goesOn Won false (claimed (claim w) w)))
+  commits :
+      w .kind ≡ 2
+      → w .place ≡ 9
+      → w .held ≤ 2
+      → cell b markCell ≡ filled w
+      → Lands b w (leaves (set b markCell (commit w)) (ends Won 1))
+  frees :
+      w .kind ≡ 2
+      → w .place ≡ 10
+      → w .held ≤ 2
+      → Lands b w (leaves (set b markCell (setMark (cell b markCell) (w .held) 0)) (ends Store 0))
+  closes :
+      w .kind ≡ 3
+      → w .place ≡ 13
+      → w .held ≡ 3
+      → cell b markCell ≡ w .word
+      → Lands b w (leaves (set b markCell (close w)) (ends Won (w .seen)))

@@ -1,0 +1,11 @@
+pub mod Cells
+pub mod Effects
+pub mod Kept
+pub mod Landing
+pub mod Lands
+pub mod Numbers
+pub mod OneOutcome
+pub mod Ranges
+pub mod Rows
+pub mod Sound
+pub mod Works

@@ -1,0 +1,113 @@
+-- What the tests of a record, of a bucket and of a turn say when they let it through. Assumes nothing.
+use Prim.Native.Nat.{ℕ, _≤_, _<_}
+use mathlib.Core.Bool.{Bool, true, false, _||_, not, and-eq-true-iff, or-true}
+use mathlib.Core.Path.{_≡_, refl, sym}
+use mathlib.Core.List.{List}
+use native.Mathlib.Omega.{arith}
+use lib.ListN.{length}
+use borrow.Author.Tests.{eqb-true, leb-true, eq-eqb, le-leb, not-false}
+use Rattle.mark.specs.Word.{wellFormed}
+use Rattle.mark.proofs.Choices.{passes}
+use Rattle.turn.specs.declared.Worker.{Worker}
+use Rattle.turn.specs.Worker.{isIdle, mayStand, ticketFits, heldFits, wordFits, sound, broken}
+use Rattle.turn.specs.Bucket.{cell, markCell, spareCell, brokenBucket}
+use Rattle.turn.specs.Ready.{Ready}
+use Rattle.turn.specs.Turn.{turnRefusal}
+use Rattle.turn.proofs.Works.{Works, looking, inserting, claiming, filling, beginning, removing, works}
+
+-- ---- records
+
+-- each part of the test of a busy record
+pub record Sound (w : Worker) : Type 0 where
+  pub stands : mayStand (w .kind) (w .place) ≡ true
+  pub ticket : ticketFits (w .kind) (w .ticket) ≡ true
+  pub held : heldFits (w .kind) (w .place) (w .held) ≡ true
+  pub slot : w .slot ≤ 2
+  pub word : wordFits (w .kind) (w .word) ≡ true
+
+-- the test says all of them
+pub sound-parts : (w : Worker) → sound w ≡ true → Sound w
+unfolding sound
+sound-parts w is =
+    let a = and-eq-true-iff _ _ .0 is in
+    let b = and-eq-true-iff _ _ .0 (a .1) in
+    let c = and-eq-true-iff _ _ .0 (b .1) in
+    let d = and-eq-true-iff _ _ .0 (c .1) in
+    record { stands = a .0; ticket = b .0; held = c .0; slot = leb-true _ 2 (d .0); word = d .1 }
+
+-- and they say the test
+pub sound-whole : (w : Worker) → Sound w → sound w ≡ true
+unfolding sound
+sound-whole w s = rw (s .stands, s .ticket, s .held, le-leb (w .slot) 2 (s .slot), s .word)
+
+other-holds : (t u : Bool) → not (t || u) ≡ false → t ≡ false → u ≡ true
+other-holds t true h f = refl
+other-holds true false h f = sym f
+other-holds false false h f = sym h
+
+-- a record that is not broken is idle or sound
+pub not-broken : (w : Worker) → broken w ≡ false → isIdle w ≡ false → Sound w
+unfolding broken
+not-broken w is busy = sound-parts w (other-holds _ _ is busy)
+
+-- and a sound one is not broken
+pub sound-not-broken : (w : Worker) → Sound w → broken w ≡ false
+unfolding broken
+sound-not-broken w s = rw (sound-whole w s, or-true (isIdle w))
+
+-- ---- buckets
+
+-- each part of the test of a bucket
+pub record Whole (b : List ℕ) : Type 0 where
+  pub eight : length b ≡ 8
+  pub formed : wellFormed (cell b markCell) ≡ true
+  pub spare : cell b spareCell ≡ 0
+
+-- a bucket that is not broken has them all
+pub whole-parts : (b : List ℕ) → brokenBucket b ≡ false → Whole b
+unfolding brokenBucket
+whole-parts b is =
+    let a = and-eq-true-iff _ _ .0 (not-false _ is) in
+    let c = and-eq-true-iff _ _ .0 (a .1) in
+    record { eight = eqb-true _ 8 (a .0); formed = c .0; spare = eqb-true _ 0 (c .1) }
+
+-- and one that has them is not broken
+pub whole-not-broken : (b : List ℕ) → Whole b → brokenBucket b ≡ false
+unfolding brokenBucket
+whole-not-broken b h = rw (eq-eqb _ 8 (h .eight), h .formed, eq-eqb _ 0 (h .spare))
+
+-- ---- a turn that is accepted
+
+-- a busy record that is sound, and a bucket that is whole
+pub record Accepted (b : List ℕ) (w : Worker) : Type 0 where
+  pub sound : Sound w
+  pub whole : Whole b
+  pub busy : isIdle w ≡ false
+
+-- that is a turn with no number of refusal
+pub accepted : (b : List ℕ) (w : Worker) → turnRefusal b w ≡ 0 → Accepted b w
+unfolding turnRefusal
+accepted b w is =
+    let one = passes (broken w) 2 _ is in
+    let two = passes (isIdle w) 5 _ (one .1) in
+    let three = passes (brokenBucket b) 6 0 (two .1) in
+    record { sound = not-broken w (one .0) (two .0); whole = whole-parts b (three .0); busy = two .0 }
+
+-- kind, place and held of an accepted turn's record
+pub accepted-works : (b : List ℕ) (w : Worker) → Accepted b w → Works (w .kind) (w .place) (w .held)
+accepted-works b w ok = works _ _ _ (ok .sound .stands) (ok .sound .held)
+
+-- an accepted turn has all that the step asks for
+module _ (b : List ℕ) (w : Worker) (ok : Accepted b w) where
+  holds : 7 ≤ w .place → w .place ≤ 10 → Works (w .kind) (w .place) (w .held) → w .held < 3
+  holds from to (looking k l h e) = absurd (omega arith)
+  holds from to (inserting k l h e) = absurd (omega arith)
+  holds from to (claiming k e h) = absurd (omega arith)
+  holds from to (filling k l h e) = omega arith
+  holds from to (beginning k e h) = absurd (omega arith)
+  holds from to (removing k l h e) = absurd (omega arith)
+
+  pub ready : Ready b w
+  ready =
+      let few = ok .sound .slot in
+      record { eight = ok .whole .eight; slot = omega arith; holds = λ from to. holds from to (accepted-works b w ok) }

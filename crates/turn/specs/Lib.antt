@@ -1,0 +1,6 @@
+pub mod Worker
+pub mod Bucket
+pub mod Places
+pub mod Ready
+pub mod Turn
+pub mod Effects

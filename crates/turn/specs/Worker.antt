@@ -1,0 +1,101 @@
+-- A worker's record. Kinds: 0 idle, 1 look, 2 insert, 3 remove. Quotations are document 01's.
+use Prim.Native.Nat.{ℕ}
+use mathlib.Core.Bool.{Bool, false, cond, _&&_, _||_, not}
+use lib.Dec.{eqb, leb}
+use Rattle.mark.specs.Word.{wellFormed}
+use Rattle.turn.specs.declared.Worker.{Worker}
+
+-- "Idle means all fields 0 but held, which is 3."
+abbrev pub idle : Worker
+idle = record { kind = 0; place = 0; key = 0; ticket = 0; slot = 0; word = 0; held = 3; seen = 0 }
+
+-- ---- the record that a start leaves
+
+-- "Every start fills kind and key, and leaves held 3 and the rest 0 except" the place and an insert's ticket
+abbrev pub started : ℕ → ℕ → ℕ → ℕ → Worker
+started k p lot t = record { kind = k; place = p; key = lot; ticket = t; slot = 0; word = 0; held = 3; seen = 0 }
+
+-- "a look starts at place 2"
+abbrev pub lookFor : ℕ → Worker
+lookFor lot = started 1 2 lot 0
+
+-- "insert and remove at place 1; an insert has its ticket"
+abbrev pub insertOf : ℕ → ℕ → Worker
+insertOf lot t = started 2 1 lot t
+
+-- a remove has no ticket
+abbrev pub removeOf : ℕ → Worker
+removeOf lot = started 3 1 lot 0
+
+-- ---- a record with some fields changed: "Fields not named are unchanged."
+
+-- at another place
+abbrev pub goTo : ℕ → Worker → Worker
+goTo p w = record { kind = w .kind; place = p; key = w .key; ticket = w .ticket; slot = w .slot; word = w .word; held = w .held; seen = w .seen }
+
+-- at another place and slot
+abbrev pub atSlot : ℕ → ℕ → Worker → Worker
+atSlot p s w = record { kind = w .kind; place = p; key = w .key; ticket = w .ticket; slot = s; word = w .word; held = w .held; seen = w .seen }
+
+-- at another place, with the value that it saw
+abbrev pub saw : ℕ → ℕ → Worker → Worker
+saw p v w = record { kind = w .kind; place = p; key = w .key; ticket = w .ticket; slot = w .slot; word = w .word; held = w .held; seen = v }
+
+-- at another place and slot 0, with the mark word that it read
+abbrev pub readWord : ℕ → ℕ → Worker → Worker
+readWord p m w = record { kind = w .kind; place = p; key = w .key; ticket = w .ticket; slot = 0; word = m; held = w .held; seen = w .seen }
+
+-- "word is the new word, held is slot, 7"
+abbrev pub claimed : ℕ → Worker → Worker
+claimed m w = record { kind = w .kind; place = 7; key = w .key; ticket = w .ticket; slot = w .slot; word = m; held = w .slot; seen = w .seen }
+
+-- ---- idle and broken records
+
+-- every field is the idle record's
+unfoldable pub isIdle : Worker → Bool
+isIdle w =
+    eqb (w .kind) 0
+    && (eqb (w .place) 0
+    && (eqb (w .key) 0
+    && (eqb (w .ticket) 0
+    && (eqb (w .slot) 0
+    && (eqb (w .word) 0
+    && (eqb (w .held) 3
+    && eqb (w .seen) 0))))))
+
+-- "lo..hi", both ends included
+abbrev pub within : ℕ → ℕ → ℕ → Bool
+within lo hi n = leb lo n && leb n hi
+
+-- "look at 2..5 ..; insert at 1..10; remove at 1 or 11..13"
+unfoldable pub mayStand : ℕ → ℕ → Bool
+mayStand kind place =
+    cond (eqb kind 1) (within 2 5 place)
+    (cond (eqb kind 2) (within 1 10 place)
+    (cond (eqb kind 3) (eqb place 1 || within 11 13 place) false))
+
+-- "ticket at least 1 for an insert and 0 otherwise"
+unfoldable pub ticketFits : ℕ → ℕ → Bool
+ticketFits kind ticket = cond (eqb kind 2) (leb 1 ticket) (eqb ticket 0)
+
+-- "held 3 except in an insert, where it is 3 at place 6, 0..2 at 7..10, either at 1..5"
+unfoldable pub heldFits : ℕ → ℕ → ℕ → Bool
+heldFits kind place held =
+    cond (eqb kind 2) (cond (eqb place 6) (eqb held 3) (cond (leb 7 place) (leb held 2) (leb held 3))) (eqb held 3)
+
+-- a look's "word 0"; "word's marks at most 2 and its byte 7 zero"
+unfoldable pub wordFits : ℕ → ℕ → Bool
+wordFits kind word = cond (eqb kind 1) (eqb word 0) (wellFormed word)
+
+-- all that a busy record has to be
+unfoldable pub sound : Worker → Bool
+sound w =
+    mayStand (w .kind) (w .place)
+    && (ticketFits (w .kind) (w .ticket)
+    && (heldFits (w .kind) (w .place) (w .held)
+    && (leb (w .slot) 2
+    && wordFits (w .kind) (w .word))))
+
+-- "A record is broken unless it is idle or" sound
+unfoldable pub broken : Worker → Bool
+broken w = not (isIdle w || sound w)
