@@ -1,0 +1,12 @@
+pub mod Buckets
+pub mod Cut
+pub mod Determined
+pub mod Few
+pub mod Keeps
+pub mod Numbers
+pub mod Parts
+pub mod Refused
+pub mod Runs
+pub mod Sizes
+pub mod Stops
+pub mod Turns

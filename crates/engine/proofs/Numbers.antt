@@ -1,0 +1,35 @@
+-- The promises of a turn and of a count, from their equations: the number that the answer tells is the tests' own. Assumes nothing.
+use Prim.Native.Nat.{ℕ}
+use mathlib.Core.Path.{_≡_, refl, sym, ap, _∙_}
+use mathlib.Core.List.{List}
+use lib.Dec.{eqb}
+use borrow.Author.Tests.{eqb-true}
+use Rattle.mark.proofs.Choices.{by-cases}
+use Rattle.turn.specs.declared.Worker.{Worker}
+use Rattle.turn.specs.declared.Turned.{Turned}
+use Rattle.turn.specs.Turn.{after}
+use Rattle.turn.proofs.Numbers.{numberIn, number-told}
+use Rattle.engine.specs.declared.Floor.{Floor}
+use Rattle.engine.specs.declared.Seat.{Seat}
+use Rattle.engine.specs.declared.Counted.{Counted}
+use Rattle.engine.specs.Refusals.{turnNumber, countNumber}
+use Rattle.engine.specs.Calls.{turned, turnCall, countCall, countedNumber}
+use Rattle.engine.specs.Promises.{TurnDone, CountDone}
+
+-- a turn
+pub turn-done :
+    (board : List ℕ) (s : Seat) (w : Worker) (later : List ℕ) (r : Turned)
+    → after later r ≡ turnCall board s w
+    → TurnDone board s w later r
+unfolding turnCall turned
+turn-done board s w later r whole =
+    record { whole = whole; number = ap numberIn whole ∙ number-told (turnNumber (s .floor) board (s .listed) (s .worker) w) _ board w refl }
+
+-- a count
+pub count-done : (board : List ℕ) (f : Floor) (r : Counted) → r ≡ countCall board f → CountDone board f r
+unfolding countCall
+count-done board f r whole =
+    let n = countNumber f board in
+    let told : countedNumber (countCall board f) ≡ n =
+    by-cases (λ (x : Counted). countedNumber x ≡ n) (eqb n 0) _ _ (λ is. sym (eqb-true n 0 is)) (λ isnot. refl) in
+    record { whole = whole; number = ap countedNumber whole ∙ told }

@@ -1,0 +1,52 @@
+-- What the test of the sizes says when it lets a floor through. Assumes nothing.
+use Prim.Native.Nat.{ℕ}
+use mathlib.Core.Bool.{Bool, true, false, _||_, and-eq-true-iff}
+use mathlib.Core.Path.{_≡_, refl, _∙_}
+use mathlib.Core.List.{List}
+use lib.ListN.{length}
+use borrow.Author.Tests.{eqb-true, leb-true, not-false}
+use Rattle.mark.proofs.Choices.{passes}
+use Rattle.engine.specs.declared.Floor.{Floor}
+use Rattle.engine.specs.Refusals.{wrongFloor, wrongSizes, showNumber}
+use Rattle.engine.specs.Room.{Right}
+
+-- floor and board fit together
+pub right : (f : Floor) (board : List ℕ) → wrongFloor f board ≡ false → Right f board
+unfolding wrongFloor
+right f board is =
+    let all = and-eq-true-iff _ _ .0 (not-false _ is) in
+    let rest = and-eq-true-iff _ _ .0 (all .1) in
+    let w = and-eq-true-iff _ _ .0 (all .0) in
+    let n = and-eq-true-iff _ _ .0 (rest .0) in
+    record {
+      some-worker = leb-true 1 _ (w .0);
+      workers = leb-true _ 64 (w .1);
+      some-bucket = leb-true 1 _ (n .0);
+      buckets = leb-true _ 256 (n .1);
+      words = eqb-true _ _ (rest .1);
+    }
+
+neither : (t u : Bool) → (t || u) ≡ false → t ≡ false
+neither true u is = is
+neither false u is = refl
+
+-- so they do where the list is tested too
+pub right-sizes : (f : Floor) (board : List ℕ) (listed : ℕ) → wrongSizes f board listed ≡ false → Right f board
+unfolding wrongSizes
+right-sizes f board listed is = right f board (neither _ _ is)
+
+-- a show that is not refused
+pub shown-right : (f : Floor) (board : List ℕ) (lot : ℕ) → showNumber f board lot ≡ 0 → Right f board
+unfolding showNumber
+shown-right f board lot is = right f board (passes _ 0 _ is .0)
+
+-- a board that keeps its length still fits its floor
+pub right-kept : (f : Floor) (board later : List ℕ) → Right f board → length later ≡ length board → Right f later
+right-kept f board later is long =
+    record {
+      some-worker = is .some-worker;
+      workers = is .workers;
+      some-bucket = is .some-bucket;
+      buckets = is .buckets;
+      words = long ∙ is .words;
+    }

@@ -1,0 +1,28 @@
+use borrow.Author.Needs.{needs}
+use native.Mathlib.Omega.{arith}
+use Rattle.mark.specs.Word.{sumMarks}
+use Rattle.engine.proofs.lots.in_word.Statement.{statement}
+use Rattle.engine.proofs.lots.in_word.Tie as tie
+
+returns : tie.Need-returns
+unfolding sumMarks
+returns c =
+    let b = c .before .before in
+    let a = b .before .before in (
+      simp (
+        a .is-taken .ensures .0,
+        a .before .mark-of .ensures,
+        b .is-taken2 .ensures .0,
+        b .before .mark-of2 .ensures,
+        c .is-taken3 .ensures .0,
+        c .before .mark-of3 .ensures,
+      ),
+      omega (arith, a .is-taken .ensures .1, b .is-taken2 .ensures .1, c .is-taken3 .ensures .1),
+    )
+
+pub in-word-spec : {M : Type 1} → statement M
+in-word-spec =
+    tie.close
+    (tie.spec
+    (λ c κs. search needs) (λ c κs. search needs) (λ c κs. search needs) (λ c κs. search needs) (λ c κs. search needs)
+    (λ c κs. search needs) (λ c. search needs) (λ c. search needs) returns)

@@ -1,0 +1,164 @@
+-- Each call's whole outcome, as a function of what it is given: what it answers, and the board, the records and the floor that it
+-- leaves. A refused call answers its number and leaves everything as it came.
+use Prim.Native.Nat.{ℕ, _+_, _*_}
+use mathlib.Core.Bool.{Bool, false, cond}
+use mathlib.Core.List.{List, [], _∷_}
+use lib.ListN.{getD, set, replicate}
+use lib.Dec.{eqb}
+use Rattle.turn.specs.declared.Worker.{Worker}
+use Rattle.turn.specs.declared.Action.{Action}
+use Rattle.turn.specs.declared.Action.the-variants.{Read, Store, Won, Lost}
+use Rattle.turn.specs.declared.Report.{Report}
+use Rattle.turn.specs.declared.Answer.{Answer}
+use Rattle.turn.specs.declared.Answer.the-variants.{Refused, Done}
+use Rattle.turn.specs.declared.Turned.{Turned}
+use Rattle.turn.specs.Worker.{idle, lookFor, insertOf, removeOf}
+use Rattle.turn.specs.Places.{Step, turn}
+use Rattle.turn.specs.Turn.{After, after, refusing, doing}
+use Rattle.engine.specs.declared.Floor.{Floor}
+use Rattle.engine.specs.declared.Plan.{Plan}
+use Rattle.engine.specs.declared.Seat.{Seat}
+use Rattle.engine.specs.declared.Opened.{Opened}
+use Rattle.engine.specs.declared.Started.{Started}
+use Rattle.engine.specs.declared.Totals.{Totals}
+use Rattle.engine.specs.declared.Ran.{Ran}
+use Rattle.engine.specs.declared.Counted.{Counted}
+use Rattle.engine.specs.declared.Counted.the-variants.{Refusal, Lots}
+use Rattle.engine.specs.Board.{bucketOf, withBucket, openedBoard, lotsOn}
+use Rattle.engine.specs.Refusals.{spent, bucketFor, openNumber, startNumber, eachNumber, turnNumber, runNumber, showNumber, countNumber}
+
+-- ---- open
+
+-- the floor that a plan asks for: "the last ticket becomes 0"
+abbrev pub planned : Plan → Floor
+planned p = record { workers = p .workers; buckets = p .buckets; last = 0 }
+
+-- "Every bucket gets that version, empty marks and zeros; every worker becomes idle; the last ticket becomes 0."
+unfoldable pub openCall : List ℕ → Floor → List Worker → ℕ → Plan → After Opened
+openCall board f records listed p =
+    cond (eqb (openNumber (planned p) board listed) 0)
+    (after (openedBoard (p .buckets) (p .version)) (record { refusal = 0; floor = planned p; records = replicate 64 idle }))
+    (after board (record { refusal = openNumber (planned p) board listed; floor = f; records = records }))
+
+-- ---- start
+
+-- a start, late if its ticket is spent: where it is accepted the record becomes `new` and the floor `f`
+unfoldable pub startCall : List ℕ → Seat → Worker → Bool → Worker → Floor → Started
+startCall board s w late new f =
+    cond (eqb (startNumber (s .floor) board (s .listed) (s .worker) w late) 0)
+    (record { refusal = 0; floor = f; worker = new })
+    (record { refusal = startNumber (s .floor) board (s .listed) (s .worker) w late; floor = s .floor; worker = w })
+
+-- "acceptance makes it the last ticket"
+abbrev pub spending : Floor → ℕ → Floor
+spending f ticket = record { workers = f .workers; buckets = f .buckets; last = ticket }
+
+-- the start of a look
+abbrev pub lookCall : List ℕ → Seat → Worker → ℕ → Started
+lookCall board s w lot = startCall board s w false (lookFor lot) (s .floor)
+
+-- the start of an insert
+abbrev pub insertCall : List ℕ → Seat → Worker → ℕ → ℕ → Started
+insertCall board s w lot ticket = startCall board s w (spent (s .floor) ticket) (insertOf lot ticket) (spending (s .floor) ticket)
+
+-- the start of a remove
+abbrev pub removeCall : List ℕ → Seat → Worker → ℕ → Started
+removeCall board s w lot = startCall board s w false (removeOf lot) (s .floor)
+
+-- ---- turn
+
+-- a turn that is done is the place table's, on the bucket of the worker's lot
+abbrev pub turnDone : Floor → List ℕ → Worker → Step → After Turned
+turnDone f board w s = after (withBucket board (bucketOf (w .key) (f .buckets)) (s .bucket)) (doing s)
+
+-- what a turn with this number of refusal, or 0, comes to
+unfoldable pub turned : ℕ → Floor → List ℕ → Worker → After Turned
+turned number f board w = cond (eqb number 0) (turnDone f board w (turn (bucketFor f board (w .key)) w)) (after board (refusing number w))
+
+-- one turn
+unfoldable pub turnCall : List ℕ → Seat → Worker → After Turned
+turnCall board s w = turned (turnNumber (s .floor) board (s .listed) (s .worker) w) (s .floor) board w
+
+-- ---- run
+
+-- "A change is a won swap or the store of place 10."
+abbrev pub changes : ℕ → Action → ℕ
+changes place Read = 0
+changes place Store = cond (eqb place 10) 1 0
+changes place Won = 1
+changes place Lost = 0
+
+-- a lost swap is one
+abbrev pub losses : Action → ℕ
+losses Read = 0
+losses Store = 0
+losses Won = 0
+losses Lost = 1
+
+-- the totals with one turn more, done at a place
+abbrev pub tallied : ℕ → Report → Totals → Totals
+tallied place r t =
+    record {
+      turns = t .turns + 1;
+      changes = t .changes + changes place (r .action);
+      lost = t .lost + losses (r .action);
+      full = t .full + cond (r .full) 1 0;
+    }
+
+-- nothing is counted yet
+abbrev pub noTurns : Totals
+noTurns = record { turns = 0; changes = 0; lost = 0; full = 0 }
+
+-- how a run stands: what it has left so far, what it has counted, and the number that stopped it, or 0
+abbrev pub standing : List ℕ → List Worker → Totals → ℕ → After Ran
+standing board records totals stop = after board (record { records = records; totals = totals; stop = stop })
+
+-- what stands for a record past the end of the list, whose worker has no turn (2)
+abbrev pub blank : Worker
+blank = record { kind = 0; place = 0; key = 0; ticket = 0; slot = 0; word = 0; held = 0; seen = 0 }
+
+-- what the turn of worker t came to: the run goes on from there, or "stops before the first refused turn; turns done stand"
+abbrev pub goOn : (After Ran → After Ran) → ℕ → ℕ → List ℕ → Worker → Answer → Ran → After Ran
+goOn rest t place board w (Refused number) r = standing board (r .records) (r .totals) number
+goOn rest t place board w (Done report) r = rest (standing board (set (r .records) t w) (tallied place report (r .totals)) 0)
+
+-- one turn of worker t, and then the rest
+abbrev pub oneTurn : (After Ran → After Ran) → Floor → ℕ → Worker → After Ran → After Ran
+oneTurn rest f t w s =
+    let x : After Turned = turned (eachNumber f (s .words) t w) f (s .words) w in
+    goOn rest t (w .place) (x .words) (x .handed .worker) (x .handed .answer) (s .handed)
+
+-- the turns of a list from where a run stands: "A run of turns (worker numbers ..)"
+unfoldable pub runFrom : Floor → List ℕ → After Ran → After Ran
+runFrom f [] s = s
+runFrom f (t ∷ ts) s = oneTurn (runFrom f ts) f t (getD (s .handed .records) t blank) s
+
+-- a run: 1 and 9 refuse it whole
+unfoldable pub runCall : List ℕ → Floor → List Worker → ℕ → List ℕ → After Ran
+runCall board f records listed turns =
+    cond (eqb (runNumber f board listed turns) 0)
+    (runFrom f turns (standing board records noTurns 0))
+    (standing board records noTurns (runNumber f board listed turns))
+
+-- ---- show and count
+
+-- "handed back as that eight-word part of the lent board"; "A refused show hands back an empty part"
+unfoldable pub showCall : List ℕ → Floor → ℕ → List ℕ
+showCall board f lot = cond (eqb (showNumber f board lot) 0) (bucketFor f board lot) []
+
+-- "starting at eight times the bucket number"; an empty part starts where the board does
+unfoldable pub showStart : List ℕ → Floor → ℕ → ℕ
+showStart board f lot = cond (eqb (showNumber f board lot) 0) (8 * bucketOf lot (f .buckets)) 0
+
+-- so many words of eight bytes on from where a reference points, in the same block of memory: "with no copy"
+abbrev pub wordsOn : ℕ × ℕ → ℕ → ℕ × ℕ
+wordsOn p n = (p .0, p .1 + 8 * n)
+
+-- the lots on the board, or the number alone
+unfoldable pub countCall : List ℕ → Floor → Counted
+countCall board f = cond (eqb (countNumber f board) 0) (Lots (lotsOn board (f .buckets))) (Refusal (countNumber f board))
+
+-- 01's number for each case of a count: a refusal's own, and 0 for a number of lots
+abbrev pub countedNumber : Counted → ℕ
+countedNumber (Refusal number) = number
+countedNumber (Lots lots) = 0

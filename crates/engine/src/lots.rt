@@ -1,0 +1,75 @@
+// The buckets of the board, and the lots in them.
+ghost use mathlib.Core.Path.{_≡_};
+ghost use Prim.Native.Nat.{_+_, _*_, _≤_, _<_};
+ghost use lib.ListN.{length};
+ghost use Rattle.mark.specs.Word.{sumMarks};
+ghost use Rattle.turn.specs.Bucket.{brokenBucket};
+ghost use Rattle.engine.specs.Board.{bucketOf, taken, lotsOn, anyBroken};
+ghost use Rattle.engine.specs.Refusals.{bucketFor};
+ghost use Rattle.engine.specs.Room.{Right};
+use crate::Floor;
+use turn::bucket;
+
+// Where the bucket of a lot starts: eight times the bucket number.
+pub fn first_word(lot: u64, buckets: usize) -> usize
+    requires { ⌜ (1 ≤ buckets) × (buckets ≤ 256) ⌝ }
+    ensures { λ r. ⌜ (r ≡ 8 * bucketOf lot buckets) × (r + 8 ≤ 8 * buckets) ⌝ }
+{
+    let b = lot % (buckets as u64);
+    8 * (b as usize)
+}
+
+// Whether the bucket of a lot is broken.
+pub fn is_broken(board: &[u64], floor: Floor, lot: u64) -> bool
+    requires { ⌜ Right floor (now board) ⌝ }
+    ensures { λ r. ⌜ r ≡ brokenBucket (bucketFor floor (now (board .entry)) lot) ⌝ }
+{
+    let at = first_word(lot, floor.buckets);
+    bucket::is_broken(&board[at..at + 8])
+}
+
+pub fn any_broken(board: &[u64], buckets: usize) -> bool
+    requires { ⌜ (buckets ≤ 256) × (length (now board) ≡ 8 * buckets) ⌝ }
+    ensures { λ r. ⌜ r ≡ anyBroken (now (board .entry)) buckets ⌝ }
+{
+    let mut b = 0;
+    while b < buckets {
+        let at = 8 * b;
+        if bucket::is_broken(&board[at..at + 8]) {
+            return true;
+        }
+        b += 1;
+    }
+    false
+}
+
+fn is_taken(mark: u8) -> usize
+    ensures { λ r. ⌜ (r ≡ taken mark) × (r ≤ 1) ⌝ }
+{
+    if mark == mark::EMPTY {
+        return 0;
+    }
+    1
+}
+
+fn in_word(word: u64) -> usize
+    ensures { λ r. ⌜ (r ≡ sumMarks taken word) × (r ≤ 3) ⌝ }
+{
+    let first = is_taken(mark::mark_of(word, 0));
+    let second = is_taken(mark::mark_of(word, 1));
+    let third = is_taken(mark::mark_of(word, 2));
+    first + second + third
+}
+
+pub fn count(board: &[u64], buckets: usize) -> usize
+    requires { ⌜ (buckets ≤ 256) × (length (now board) ≡ 8 * buckets) ⌝ }
+    ensures { λ r. ⌜ r ≡ lotsOn (now (board .entry)) buckets ⌝ }
+{
+    let mut lots = 0;
+    let mut b = 0;
+    while b < buckets {
+        lots += in_word(board[8 * b]);
+        b += 1;
+    }
+    lots
+}
