@@ -5,7 +5,7 @@ use mathlib.Core.Path.{_≡_, refl, _∙_}
 use mathlib.Core.List.{List}
 use lib.ListN.{length}
 use borrow.Author.Tests.{eqb-true, leb-true, not-false}
-use Rattle.mark.proofs.Choices.{passes}
+use Rattle.mark.proofs.Choices.{passes, not-both}
 use Rattle.engine.specs.declared.Floor.{Floor}
 use Rattle.engine.specs.Refusals.{wrongFloor, wrongSizes, showNumber}
 use Rattle.engine.specs.Room.{Right}
@@ -26,14 +26,19 @@ right f board is =
       words = eqb-true _ _ (rest .1);
     }
 
-neither : (t u : Bool) → (t || u) ≡ false → t ≡ false
-neither true u is = is
-neither false u is = refl
+both-fail : (t u : Bool) → (t || u) ≡ false → (t ≡ false) × (u ≡ false)
+both-fail true u is = not-both true is refl
+both-fail false u is = (refl, is)
 
 -- so they do where the list is tested too
 pub right-sizes : (f : Floor) (board : List ℕ) (listed : ℕ) → wrongSizes f board listed ≡ false → Right f board
 unfolding wrongSizes
-right-sizes f board listed is = right f board (neither _ _ is)
+right-sizes f board listed is = right f board (both-fail _ _ is .0)
+
+-- and the list has a record for each worker
+pub right-listed : (f : Floor) (board : List ℕ) (listed : ℕ) → wrongSizes f board listed ≡ false → listed ≡ f .workers
+unfolding wrongSizes
+right-listed f board listed is = eqb-true _ _ (not-false _ (both-fail (wrongFloor f board) _ is .1))
 
 -- a show that is not refused
 pub shown-right : (f : Floor) (board : List ℕ) (lot : ℕ) → showNumber f board lot ≡ 0 → Right f board

@@ -3,7 +3,7 @@
 use Prim.Native.Nat.{ℕ, _+_, _*_}
 use mathlib.Core.Bool.{Bool, false, cond}
 use mathlib.Core.List.{List, [], _∷_}
-use lib.ListN.{getD, set, replicate}
+use lib.ListN.{length, getD, set, replicate}
 use lib.Dec.{eqb}
 use Rattle.turn.specs.declared.Worker.{Worker}
 use Rattle.turn.specs.declared.Action.{Action}
@@ -17,6 +17,7 @@ use Rattle.turn.specs.Places.{Step, turn}
 use Rattle.turn.specs.Turn.{After, after, refusing, doing}
 use Rattle.engine.specs.declared.Floor.{Floor}
 use Rattle.engine.specs.declared.Plan.{Plan}
+use Rattle.engine.specs.declared.Bid.{Bid}
 use Rattle.engine.specs.declared.Seat.{Seat}
 use Rattle.engine.specs.declared.Opened.{Opened}
 use Rattle.engine.specs.declared.Started.{Started}
@@ -37,7 +38,7 @@ planned p = record { workers = p .workers; buckets = p .buckets; last = 0 }
 unfoldable pub openCall : List ℕ → Floor → List Worker → ℕ → Plan → After Opened
 openCall board f records listed p =
     cond (eqb (openNumber (planned p) board listed) 0)
-    (after (openedBoard (p .buckets) (p .version)) (record { refusal = 0; floor = planned p; records = replicate 64 idle }))
+    (after (openedBoard (p .buckets) (p .version)) (record { refusal = 0; floor = planned p; records = replicate (length records) idle }))
     (after board (record { refusal = openNumber (planned p) board listed; floor = f; records = records }))
 
 -- ---- start
@@ -58,8 +59,9 @@ abbrev pub lookCall : List ℕ → Seat → Worker → ℕ → Started
 lookCall board s w lot = startCall board s w false (lookFor lot) (s .floor)
 
 -- the start of an insert
-abbrev pub insertCall : List ℕ → Seat → Worker → ℕ → ℕ → Started
-insertCall board s w lot ticket = startCall board s w (spent (s .floor) ticket) (insertOf lot ticket) (spending (s .floor) ticket)
+abbrev pub insertCall : List ℕ → Seat → Worker → Bid → Started
+insertCall board s w bid =
+    startCall board s w (spent (s .floor) (bid .ticket)) (insertOf (bid .lot) (bid .ticket)) (spending (s .floor) (bid .ticket))
 
 -- the start of a remove
 abbrev pub removeCall : List ℕ → Seat → Worker → ℕ → Started

@@ -2,7 +2,7 @@
 ghost use mathlib.Core.Path.{_≡_};
 ghost use Rattle.turn.specs.Turn.{after};
 ghost use Rattle.engine.specs.Refusals.{startNumber, showNumber};
-ghost use Rattle.engine.specs.Calls.{openCall, startCall, lookCall, insertCall, removeCall, runCall};
+ghost use Rattle.engine.specs.Calls.{openCall, startCall, lookCall, insertCall, removeCall, runCall, showStart};
 ghost use Rattle.engine.specs.Promises.{TurnDone, Shown, CountDone};
 use turn::Turned;
 use turn::Worker;
@@ -16,6 +16,7 @@ mod take; // a turn on the board, and a run of them
 mod lots; // the lots on the board
 
 // The number of workers W, the number of buckets N, and the last ticket.
+#[repr(C)]
 pub struct Floor {
     pub workers: usize,
     pub buckets: usize,
@@ -23,10 +24,18 @@ pub struct Floor {
 }
 
 // What an opening asks for.
+#[repr(C)]
 pub struct Plan {
     pub workers: usize,
     pub buckets: usize,
     pub version: u32,
+}
+
+// What an insert brings: a ticket for a lot.
+#[repr(C)]
+pub struct Bid {
+    pub lot: u64,
+    pub ticket: u32,
 }
 
 // A worker's number on a floor, and how many records the list has.
@@ -49,6 +58,7 @@ pub struct Started {
 }
 
 // "turns done, changes, lost swaps, full rounds"
+#[repr(C)]
 pub struct Totals {
     pub turns: u32,
     pub changes: u32,
@@ -104,13 +114,20 @@ pub fn start_look(board: &[u64], seat: Seat, w: Worker, lot: u64) -> Started
     start(board, seat, w, false, record::look_for(lot), floor)
 }
 
-pub fn start_insert(board: &[u64], seat: Seat, w: Worker, lot: u64, ticket: u32) -> Started
-    ensures { λ r. ⌜ r ≡ insertCall (now (board .entry)) seat w lot ticket ⌝ }
+pub fn start_insert(board: &[u64], seat: Seat, w: Worker, bid: Bid) -> Started
+    ensures { λ r. ⌜ r ≡ insertCall (now (board .entry)) seat w bid ⌝ }
 {
     let mut floor = seat.floor;
-    let late = ticket <= floor.last;
-    floor.last = ticket;
-    start(board, seat, w, late, record::insert_of(lot, ticket), floor)
+    let late = bid.ticket <= floor.last;
+    floor.last = bid.ticket;
+    start(
+        board,
+        seat,
+        w,
+        late,
+        record::insert_of(bid.lot, bid.ticket),
+        floor,
+    )
 }
 
 pub fn start_remove(board: &[u64], seat: Seat, w: Worker, lot: u64) -> Started
@@ -204,6 +221,16 @@ pub fn show(board: &[u64], floor: Floor, lot: u64) -> &[u64]
         return &board[at..at + 8];
     }
     &board[0..0]
+}
+
+// Where that part starts on the board, in words; 0 where the show is refused.
+pub fn show_start(board: &[u64], floor: Floor, lot: u64) -> usize
+    ensures { λ r. ⌜ r ≡ showStart (now (board .entry)) floor lot ⌝ }
+{
+    if show_refusal(board, floor, lot) == 0 {
+        return lots::first_word(lot, floor.buckets);
+    }
+    0
 }
 
 // The number of refusal of a show on the same arguments, or 0.

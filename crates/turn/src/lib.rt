@@ -8,6 +8,7 @@ pub mod bucket; // broken buckets
 mod place; // the place table
 
 // What a worker is at. Idle is all 0 but held, which is 3.
+#[repr(C)]
 pub struct Worker {
     pub kind: u8,
     pub place: u8,

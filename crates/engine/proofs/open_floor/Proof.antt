@@ -1,5 +1,6 @@
 use borrow.Author.Needs.{needs}
-use mathlib.Core.Path.{sym, _∙_}
+use mathlib.Core.Path.{_≡_, sym, _∙_}
+use lib.ListN.{length}
 use Rattle.engine.specs.Refusals.{openNumber}
 use Rattle.engine.specs.Calls.{openCall}
 use Rattle.engine.proofs.Sizes.{right-sizes}
@@ -21,7 +22,9 @@ unfolding openCall openNumber
 returns-2 c =
     let o = c .before .before .before in
     let e = o .before .before in
-    rw (sym (e .before .are-wrong .ensures) ∙ e .if1 .left) (simp (o .open .ensures, c .idle-records .ensures))
+    let a = e .before .before .before .before .args in
+    let all : length (a .records) ≡ 64 = search needs in
+    rw (sym (e .before .are-wrong .ensures) ∙ e .if1 .left) (simp (o .open .ensures, c .idle-records .ensures, all))
 
 pub open-floor-spec : {M : Type 1} → statement M
 open-floor-spec =
