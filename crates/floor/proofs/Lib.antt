@@ -1,0 +1,13 @@
+pub mod Agree
+pub mod Determined
+pub mod Leaves
+pub mod Lend
+pub mod Numbers
+pub mod Over
+pub mod Plain
+pub mod Records
+pub mod Refused
+pub mod Rosters
+pub mod Runs
+pub mod Starts
+pub mod Walk

@@ -1,0 +1,43 @@
+-- The calls that concern one record of the lent list: what they leave on the board and in the list, and what they answer. An opening
+-- and a run are the engine's openCall and runCall, with the list in the array's place and its length.
+use Prim.Native.Nat.{ℕ}
+use mathlib.Core.List.{List}
+use lib.ListN.{length, getD, set}
+use Rattle.turn.specs.declared.Worker.{Worker}
+use Rattle.turn.specs.Turn.{After, after}
+use Rattle.engine.specs.declared.Floor.{Floor}
+use Rattle.engine.specs.declared.Seat.{Seat}
+use Rattle.engine.specs.declared.Started.{Started}
+use Rattle.engine.specs.Calls.{blank, turnCall}
+use Rattle.floor.specs.declared.Outcome.{Outcome}
+use Rattle.floor.specs.declared.TurnOutcome.{TurnOutcome}
+use Rattle.floor.specs.Told.{startTold, turnTold}
+
+-- what a call leaves of the list, and what it answers
+pub record OnList (A : Type 0) : Type 0 where
+  pub records : List Worker
+  pub answer : A
+
+-- this list, and this answer
+abbrev pub onList : {A : Type 0} → List Worker → A → OnList A
+onList records answer = record { records = records; answer = answer }
+
+-- a worker's seat on a floor with this list
+abbrev pub seatIn : Floor → List Worker → ℕ → Seat
+seatIn f records i = record { floor = f; listed = length records; worker = i }
+
+-- a worker's record in the list
+abbrev pub recordIn : List Worker → ℕ → Worker
+recordIn records i = getD records i blank
+
+-- a start: the record goes back into the list, and the number and the floor are handed back
+abbrev pub startIn : (Seat → Worker → Started) → List Worker → Floor → ℕ → OnList Outcome
+startIn start records f i =
+    let x = start (seatIn f records i) (recordIn records i) in
+    onList (set records i (x .worker)) (startTold x)
+
+-- one turn: the record goes back into the list
+abbrev pub turnIn : List ℕ → List Worker → Floor → ℕ → After (OnList TurnOutcome)
+turnIn board records f i =
+    let x = turnCall board (seatIn f records i) (recordIn records i) in
+    after (x .words) (onList (set records i (x .handed .worker)) (turnTold (x .handed .answer)))

@@ -1,0 +1,4 @@
+pub mod Lent
+pub mod Told
+pub mod Calls
+pub mod Promises

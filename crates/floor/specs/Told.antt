@@ -1,0 +1,64 @@
+-- What each call hands back beside the board and the list: 01's numbers and values, for a caller that knows no enum.
+use Prim.Native.Nat.{ℕ}
+use mathlib.Core.Bool.{Bool, true, false}
+use Rattle.turn.specs.declared.Action.{Action}
+use Rattle.turn.specs.declared.Action.the-variants.{Read, Store, Won, Lost}
+use Rattle.turn.specs.declared.Progress.{Progress}
+use Rattle.turn.specs.declared.Progress.the-variants.{GoesOn, Ended}
+use Rattle.turn.specs.declared.Answer.{Answer}
+use Rattle.turn.specs.declared.Answer.the-variants.{Refused, Done}
+use Rattle.engine.specs.declared.Opened.{Opened}
+use Rattle.engine.specs.declared.Started.{Started}
+use Rattle.engine.specs.declared.Ran.{Ran}
+use Rattle.engine.specs.declared.Counted.{Counted}
+use Rattle.engine.specs.declared.Counted.the-variants.{Refusal, Lots}
+use Rattle.floor.specs.declared.Outcome.{Outcome}
+use Rattle.floor.specs.declared.TurnOutcome.{TurnOutcome}
+use Rattle.floor.specs.declared.RunOutcome.{RunOutcome}
+use Rattle.floor.specs.declared.CountOutcome.{CountOutcome}
+
+-- "read, store, won or lost", from 1 on; 0 is no action
+abbrev pub actionNumber : Action → ℕ
+actionNumber Read = 1
+actionNumber Store = 2
+actionNumber Won = 3
+actionNumber Lost = 4
+
+-- "the call goes on, or it ended with this answer"
+abbrev pub isEnded : Progress → Bool
+isEnded GoesOn = false
+isEnded (Ended answer) = true
+
+-- the answer that a call ended with, and 0 while it goes on
+abbrev pub endedWith : Progress → ℕ
+endedWith GoesOn = 0
+endedWith (Ended answer) = answer
+
+-- a turn's answer: "Each returns its number alone", so a refused turn has 0 everywhere else
+abbrev pub turnTold : Answer → TurnOutcome
+turnTold (Refused number) = record { refusal = number; action = 0; ended = false; full = false; answer = 0 }
+turnTold (Done report) =
+    record {
+      refusal = 0;
+      action = actionNumber (report .action);
+      ended = isEnded (report .progress);
+      full = report .full;
+      answer = endedWith (report .progress);
+    }
+
+-- an opening's answer: the number, and the floor as it now stands
+abbrev pub openTold : Opened → Outcome
+openTold o = record { refusal = o .refusal; floor = o .floor }
+
+-- a start's answer, likewise
+abbrev pub startTold : Started → Outcome
+startTold s = record { refusal = s .refusal; floor = s .floor }
+
+-- a run's answer: the counts of the turns done, and the number that stopped it, or 0
+abbrev pub runTold : Ran → RunOutcome
+runTold r = record { totals = r .totals; stop = r .stop }
+
+-- a count's answer
+abbrev pub countTold : Counted → CountOutcome
+countTold (Refusal number) = record { refusal = number; lots = 0 }
+countTold (Lots lots) = record { refusal = 0; lots = lots }
