@@ -4,7 +4,7 @@ use Prim.Native.Nat.{ℕ, _+_, _*_}
 use mathlib.Core.Bool.{Bool, false, cond}
 use mathlib.Core.List.{List, [], _∷_}
 use lib.ListN.{length, getD, set, replicate}
-use lib.Dec.{eqb}
+use lib.Dec.{eqb, leb}
 use Rattle.turn.specs.declared.Worker.{Worker}
 use Rattle.turn.specs.declared.Action.{Action}
 use Rattle.turn.specs.declared.Action.the-variants.{Read, Store, Won, Lost}
@@ -106,6 +106,14 @@ tallied place r t =
       lost = t .lost + losses (r .action);
       full = t .full + cond (r .full) 1 0;
     }
+
+-- a count is a number of 32 bits, and stays at the highest one
+abbrev pub capped : ℕ → ℕ
+capped n = cond (leb n 4294967295) n 4294967295
+
+-- each of the totals so; those of a run never come there
+abbrev pub cappedTotals : Totals → Totals
+cappedTotals t = record { turns = capped (t .turns); changes = capped (t .changes); lost = capped (t .lost); full = capped (t .full) }
 
 -- nothing is counted yet
 abbrev pub noTurns : Totals

@@ -1,4 +1,4 @@
--- What the private functions ask of their callers. No public function asks for anything.
+-- What private functions, here and in the crates above, ask of their callers. No public function asks for anything.
 use Prim.Native.Nat.{ℕ, _*_, _≤_}
 use mathlib.Core.Path.{_≡_}
 use mathlib.Core.List.{List}
@@ -6,12 +6,12 @@ use lib.ListN.{length}
 use Rattle.engine.specs.declared.Floor.{Floor}
 use Rattle.engine.specs.declared.Totals.{Totals}
 
--- each of the totals has room for one more
-pub record Room (t : Totals) : Type 0 where
-  pub turns : t .turns ≤ 65535
-  pub changes : t .changes ≤ 65535
-  pub lost : t .lost ≤ 65535
-  pub full : t .full ≤ 65535
+-- each of the totals is at most this
+pub record Few (n : ℕ) (t : Totals) : Type 0 where
+  pub turns : t .turns ≤ n
+  pub changes : t .changes ≤ n
+  pub lost : t .lost ≤ n
+  pub full : t .full ≤ n
 
 -- floor and board fit together
 pub record Right (f : Floor) (board : List ℕ) : Type 0 where

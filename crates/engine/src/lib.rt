@@ -2,16 +2,16 @@
 ghost use mathlib.Core.Path.{_≡_};
 ghost use Rattle.turn.specs.Turn.{after};
 ghost use Rattle.engine.specs.Refusals.{startNumber, showNumber};
-ghost use Rattle.engine.specs.Calls.{openCall, startCall, lookCall, insertCall, removeCall, runCall, showStart};
+ghost use Rattle.engine.specs.Calls.{blank, openCall, startCall, lookCall, insertCall, removeCall, runCall, showStart};
 ghost use Rattle.engine.specs.Promises.{TurnDone, Shown, CountDone};
 use turn::Turned;
 use turn::Worker;
 use turn::record;
 use turn::refusal;
 
+pub mod tally; // what turns are counted by
 mod size; // whether floor, board and list fit together
 mod lay; // an opened board
-mod tally; // what a run counts
 mod take; // a turn on the board, and a run of them
 mod lots; // the lots on the board
 
@@ -75,6 +75,22 @@ pub struct Ran {
 pub enum Counted {
     Refusal(u8),
     Lots(usize),
+}
+
+// What stands for a record past the end of a list; no call for its worker is accepted.
+pub fn blank() -> Worker
+    ensures { λ r. ⌜ r ≡ blank ⌝ }
+{
+    Worker {
+        kind: 0,
+        place: 0,
+        key: 0,
+        ticket: 0,
+        slot: 0,
+        word: 0,
+        held: 0,
+        seen: 0,
+    }
 }
 
 // Opens a floor on a lent board of eight words a bucket and a list of as many records as there are workers.

@@ -1,8 +1,8 @@
-// What a run counts.
+// What turns are counted by.
 ghost use mathlib.Core.Path.{_≡_};
+ghost use Prim.Native.Nat.{_+_};
 ghost use mathlib.Core.Bool.{cond};
-ghost use Rattle.engine.specs.Room.{Room};
-ghost use Rattle.engine.specs.Calls.{changes, losses, noTurns, tallied};
+ghost use Rattle.engine.specs.Calls.{changes, losses, noTurns, tallied, capped, cappedTotals};
 use crate::Totals;
 use turn::Action;
 use turn::Report;
@@ -59,16 +59,25 @@ fn rounds(full: bool) -> u32
     0
 }
 
+// A count with some more; at the highest number it stays.
+fn more(count: u32, some: u32) -> u32
+    ensures { λ r. ⌜ r ≡ capped (count + some) ⌝ }
+{
+    if count <= u32::MAX - some {
+        return count + some;
+    }
+    u32::MAX
+}
+
 // The totals with one turn more, done at a place.
 pub fn add(totals: Totals, place: u8, report: Report) -> Totals
-    requires { ⌜ Room totals ⌝ }
-    ensures { λ r. ⌜ r ≡ tallied place report totals ⌝ }
+    ensures { λ r. ⌜ r ≡ cappedTotals (tallied place report totals) ⌝ }
 {
     let action = report.action;
     Totals {
-        turns: totals.turns + 1,
-        changes: totals.changes + changes(place, action),
-        lost: totals.lost + losses(action),
-        full: totals.full + rounds(report.full),
+        turns: more(totals.turns, 1),
+        changes: more(totals.changes, changes(place, action)),
+        lost: more(totals.lost, losses(action)),
+        full: more(totals.full, rounds(report.full)),
     }
 }

@@ -5,28 +5,13 @@ ghost use Rattle.engine.specs.Calls.{blank};
 ghost use Rattle.floor.specs.Lent.{loaded, over};
 use turn::Worker;
 
-fn blank() -> Worker
-    ensures { λ r. ⌜ r ≡ blank ⌝ }
-{
-    Worker {
-        kind: 0,
-        place: 0,
-        key: 0,
-        ticket: 0,
-        slot: 0,
-        word: 0,
-        held: 0,
-        seen: 0,
-    }
-}
-
 pub fn take_at(records: &[Worker], worker: usize) -> Worker
     ensures { λ r. ⌜ r ≡ getD (now (records .entry)) worker blank ⌝ }
 {
     if worker < records.len() {
         return records[worker];
     } else {
-        return blank();
+        return engine::blank();
     }
 }
 
@@ -44,7 +29,7 @@ pub fn put_at(records: &mut [Worker], worker: usize, w: Worker)
 pub fn blanks() -> [Worker; 64]
     ensures { λ r. ⌜ r ≡ replicate 64 blank ⌝ }
 {
-    let w = blank();
+    let w = engine::blank();
     [w; 64]
 }
 

@@ -13,6 +13,8 @@ use Rattle.mark.specs.Word.{markOf, byte7, setMark, wellFormed}
 use Rattle.mark.proofs.Choices.{by-cases}
 use Rattle.mark.proofs.WellFormed.{well-formed-set, well-formed-bump}
 use Rattle.turn.specs.declared.Worker.{Worker}
+use Rattle.turn.specs.declared.Progress.{Progress}
+use Rattle.turn.specs.declared.Progress.the-variants.{GoesOn, Ended}
 use Rattle.turn.specs.Worker.{idle, lookFor, insertOf, removeOf, isIdle, ticketFits, wordFits, broken}
 use Rattle.turn.specs.Bucket.{markCell, spareCell}
 use Rattle.turn.specs.Places.{Step, turn}
@@ -97,6 +99,11 @@ remove-kept lot = sound-not-broken _ (sound-of (removeOf lot) (beginning refl re
 
 -- ---- an accepted turn
 
+-- "When a call ends the record becomes idle."
+abbrev pub Idles : Progress → Worker → Type 0
+Idles GoesOn v = Unit {0}
+Idles (Ended answer) v = v ≡ idle
+
 module _ (b : List ℕ) (w : Worker) (ok : Accepted b w) where
   read-formed : (w .kind ≡ 1 → ⊥) → wellFormed (w .word) ≡ true
   unfolding wordFits
@@ -129,6 +136,19 @@ module _ (b : List ℕ) (w : Worker) (ok : Accepted b w) where
   -- the bucket that a turn leaves is not broken
   pub turn-whole : Whole (turn b w .bucket)
   turn-whole = lands-whole (turn-lands b w ok)
+
+  lands-idles : {s : Step} → Lands b w s → Idles (s .stepped .report .progress) (s .stepped .worker)
+  lands-idles (reads p place other from fits aims) = tt
+  lands-idles (goes a full p s v c none same from fits slot aims) = tt
+  lands-idles (answers answer held) = refl
+  lands-idles (claims kind place held is) = tt
+  lands-idles (commits kind place held is) = refl
+  lands-idles (frees kind place held) = refl
+  lands-idles (closes kind place held is) = refl
+
+  -- so it is where a turn ends its call
+  pub turn-idles : Idles (turn b w .stepped .report .progress) (turn b w .stepped .worker)
+  turn-idles = lands-idles (turn-lands b w ok)
 
   lands-kept : {s : Step} → Lands b w s → Sound (s .stepped .worker) ⊎ (s .stepped .worker ≡ idle)
   unfolding wordFits

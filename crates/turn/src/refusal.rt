@@ -1,4 +1,4 @@
-// The numbers of refusal. Those of the sheet come with the sheet.
+// The numbers of refusal.
 
 pub const WRONG_SIZES: u8 = 1;
 
@@ -13,5 +13,7 @@ pub const SPENT_TICKET: u8 = 5;
 pub const IDLE_WORKER: u8 = 6;
 
 pub const BROKEN_BUCKET: u8 = 7;
+
+pub const MALFORMED: u8 = 8;
 
 pub const TOO_LONG: u8 = 9;

@@ -10,7 +10,8 @@ use Rattle.turn.specs.declared.Answer.{Answer}
 use Rattle.engine.specs.declared.Floor.{Floor}
 use Rattle.engine.specs.declared.Totals.{Totals}
 use Rattle.engine.specs.Calls.{standing, noTurns, blank, goOn, runFrom, tallied}
-use Rattle.engine.proofs.Few.{changes-le, losses-le, full-le}
+use Rattle.engine.specs.Room.{Few}
+use Rattle.engine.proofs.Few.{few-more, few-exact}
 use Rattle.engine.proofs.Sizes.{right-kept}
 use Rattle.engine.proofs.Runs.{run-over, run-unknown, run-tried}
 use Rattle.engine.proofs.take.run.Statement.{statement}
@@ -22,10 +23,7 @@ record Going (f : Floor) (turns board₀ : List ℕ) (records₀ : List Worker) 
   long : length board ≡ length board₀
   all : length records ≡ 64
   within : i ≤ length turns
-  turns-few : totals .turns ≤ i
-  changes-few : totals .changes ≤ i
-  lost-few : totals .lost ≤ i
-  full-few : totals .full ≤ i
+  few : Few i totals
 
 abbrev Inv-loop : tie.InvT-loop
 Inv-loop board₀ floor turns records₀ totals₀ i₀ board records totals i = Going floor turns board₀ records₀ board records totals i
@@ -41,10 +39,7 @@ loop-holds c =
       long = refl;
       all = search needs;
       within = omega arith;
-      turns-few = rw e (omega arith);
-      changes-few = rw e (omega arith);
-      lost-few = rw e (omega arith);
-      full-few = rw e (omega arith);
+      few = rw e (record { turns = omega arith; changes = omega arith; lost = omega arith; full = omega arith });
     }
 
 cast-worker : tie.Need-cast-worker Inv-loop μ-loop
@@ -83,18 +78,6 @@ taken-at c answer told =
 returns-2 : tie.Need-returns-2 Inv-loop μ-loop
 returns-2 c = taken-at (c .before .before .before .before .before .before) _ (c .before .answer .given .1)
 
-add-requires : tie.Need-add-requires Inv-loop μ-loop
-add-requires c κs =
-    let l = c .before .before .before .before .before .before .before .before .before .before .before .before .before in
-    let g = l .loop .inv in
-    let few = l .before .before .before .before .pre .1 in
-    record {
-      turns = omega (arith, g .turns-few);
-      changes = omega (arith, g .changes-few);
-      lost = omega (arith, g .lost-few);
-      full = omega (arith, g .full-few);
-    }
-
 loop-again : tie.Need-loop-again Inv-loop μ-loop
 loop-again c =
     let d = c .before .before in
@@ -104,16 +87,16 @@ loop-again c =
     let g = l .loop .inv in
     let r = d .answer2 .given .0 .0 in
     let w = getD (l .loop .records) (getD (l .before .before .before .before .args .turns .now) (l .loop .i) 0) blank in
-    let e : c .add .result ≡ tallied (w .place) r (l .loop .totals) = c .add .ensures in
+    let few = few-more (l .loop .i) (w .place) r (l .loop .totals) (g .few) in
+    let short = l .before .before .before .before .pre .1 in
+    let e : c .add .result ≡ tallied (w .place) r (l .loop .totals) =
+    c .add .ensures ∙ few-exact _ _ (omega (arith, more .loop-test .taken, short)) few in
     record {
       same = rw e (taken-at t _ (d .answer2 .given .1));
       long = t .turn .kept .0 ∙ g .long;
       all = simp length-set (g .all);
       within = omega (arith, more .loop-test .taken);
-      turns-few = rw e (omega (arith, g .turns-few));
-      changes-few = rw e (omega (arith, g .changes-few, changes-le (w .place) (r .action)));
-      lost-few = rw e (omega (arith, g .lost-few, losses-le (r .action)));
-      full-few = rw e (omega (arith, g .full-few, full-le (r .full)));
+      few = rw e few;
     }
 
 returns-3 : tie.Need-returns-3 Inv-loop μ-loop
@@ -133,6 +116,6 @@ run-spec =
     turn-requires
     (λ c. search needs) (λ c. omega arith) returns-2
     (λ c. search needs) (λ c. omega arith) (λ c. omega arith)
-    add-requires
+    (λ c κs. search needs)
     (λ c. omega arith) (λ c. omega arith) loop-again
     (λ c. omega arith) returns-3)

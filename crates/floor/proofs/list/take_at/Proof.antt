@@ -39,9 +39,9 @@ use Rattle.turn.proofs.Worker as T
 use Rattle.turn.proofs.Worker.Laws as T′
 use Rattle.floor.proofs.Walk.{walk-closes, var, sets, gone, full, bare, span, part, gets, cited-call}
 use Rattle.floor.proofs.Records.{row, vals, val, size, scaled, typed, record-out, record-back}
-use Rattle.floor.proofs.list.blank as none
-use Rattle.floor.proofs.list.blank.Symbol as none-def
-use Rattle.floor.proofs.list.blank.Met as none-thm
+use Rattle.engine.proofs.blank as none
+use Rattle.engine.proofs.blank.Symbol as none-def
+use Rattle.engine.proofs.blank.Met as none-thm
 use Rattle.floor.proofs.list.take_at.Key.{name as #take-at}
 use Rattle.floor.proofs.list.take_at as take
 use Rattle.floor.proofs.list.take_at.Statement as stated
@@ -101,4 +101,4 @@ take-at-spec 𝓤 H 𝓜 𝓖 𝓡 =
     (tables 𝓤 H 𝓜 𝓡 code.env .C) (tables 𝓤 H 𝓜 𝓡 code.env .Λ) #take-at code.function (code.unfolded 𝓤 H 𝓜 𝓡)
     (take-meets 𝓤 H (𝓖 .A) (givenOf 𝓤 H 𝓜 𝓖) (𝓜 .mem) (𝓡 .run) (tablesOf 𝓤 H 𝓜 (tables 𝓤 H 𝓜 𝓡 code.env))
     (cited 𝓤 H (tripleOf 𝓤 H (𝓖 .A) none.signature (none.spec 𝓤 H (𝓖 .A) (𝓜 .mem) (𝓡 .run))) 𝓜 𝓡 code.env none-def.name none-def.routine
-    code.calls-floor·list·blank (none-thm.met 𝓤 H 𝓜 𝓖 𝓡)))
+    code.calls-engine·blank (none-thm.met 𝓤 H 𝓜 𝓖 𝓡)))
