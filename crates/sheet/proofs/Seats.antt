@@ -1,0 +1,67 @@
+-- The starts and turns of the engine at a desk's seats: who they are given to, and what a refused one leaves. Assumes nothing.
+use Prim.Native.Nat.{ℕ, _<_}
+use mathlib.Core.Bool.{Bool}
+use mathlib.Core.Path.{_≡_, refl}
+use mathlib.Core.List.{List}
+use native.Mathlib.Omega.{arith}
+use lib.Dec.{eqb}
+use borrow.Author.Tests.{leb-false, eqb-true}
+use Rattle.mark.proofs.Choices.{by-cases, passes}
+use Rattle.turn.specs.declared.Worker.{Worker}
+use Rattle.engine.specs.declared.Floor.{Floor}
+use Rattle.engine.specs.declared.Seat.{Seat}
+use Rattle.engine.specs.declared.Started.{Started}
+use Rattle.engine.specs.Refusals.{startNumber, wrongSizes, noWorker}
+use Rattle.engine.specs.Calls.{spending, startCall}
+use Rattle.engine.proofs.Sizes.{right-sizes}
+use Rattle.sheet.specs.declared.Call.{Call}
+use Rattle.sheet.specs.Play.{asked}
+
+module _ (board : List ℕ) (s : Seat) (w : Worker) where
+  -- what holds of every start, whatever ticket it spends, holds of the one that a call asks for; a look and a remove leave the last
+  pub asked-is :
+      (P : Started → Type 0)
+      → ((late : Bool) (new : Worker) (ticket : ℕ) → P (startCall board s w late new (spending (s .floor) ticket)))
+      → (c : Call)
+      → P (asked board s w c)
+  unfolding asked
+  asked-is P every c =
+      by-cases P (eqb (c .kind) 1) _ _ (λ is. every _ _ (s .floor .last))
+      (λ other. by-cases P (eqb (c .kind) 2) _ _ (λ is. every _ _ (c .ticket)) (λ third. every _ _ (s .floor .last)))
+
+  -- a start that is not refused is for a worker below 64
+  abbrev Known : Started → Type 0
+  Known x = x .refusal ≡ 0 → s .worker < 64
+
+  number-known : (late : Bool) → startNumber (s .floor) board (s .listed) (s .worker) w late ≡ 0 → s .worker < 64
+  unfolding startNumber
+  number-known late none =
+      let sizes = passes (wrongSizes (s .floor) board (s .listed)) 0 _ none in
+      let one = passes (noWorker (s .floor) (s .worker)) 1 _ (sizes .1) in
+      let right = right-sizes (s .floor) board (s .listed) (sizes .0) in
+      omega (arith, right .workers, leb-false (s .floor .workers) (s .worker) (one .0))
+
+  start-known : (late : Bool) (new : Worker) (f : Floor) → Known (startCall board s w late new f)
+  unfolding startCall
+  start-known late new f =
+      by-cases Known (eqb (startNumber (s .floor) board (s .listed) (s .worker) w late) 0) _ _
+      (λ is none. number-known late (eqb-true _ 0 is))
+      (λ isnot. number-known late)
+
+  -- so is one that a call asks for
+  pub asked-known : (c : Call) → asked board s w c .refusal ≡ 0 → s .worker < 64
+  asked-known = asked-is Known (λ late new ticket. start-known late new _)
+
+  -- a refused start leaves the floor and the record
+  abbrev Same : Started → Type 0
+  Same x = (x .refusal ≡ 0 → ⊥) → (x .floor ≡ s .floor) × (x .worker ≡ w)
+
+  start-same : (late : Bool) (new : Worker) (f : Floor) → Same (startCall board s w late new f)
+  unfolding startCall
+  start-same late new f =
+      by-cases Same (eqb (startNumber (s .floor) board (s .listed) (s .worker) w late) 0) _ _
+      (λ is some. absurd (some refl)) (λ isnot some. (refl, refl))
+
+  -- so does one that a call asks for
+  pub asked-same : (c : Call) → (asked board s w c .refusal ≡ 0 → ⊥) → (asked board s w c .floor ≡ s .floor) × (asked board s w c .worker ≡ w)
+  asked-same = asked-is Same (λ late new ticket. start-same late new _)

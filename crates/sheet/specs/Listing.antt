@@ -1,0 +1,68 @@
+-- The whole listing, as a function of the sheet. Quotations are document 01's.
+use Prim.Native.Nat.{ℕ, zero, suc, _*_}
+use mathlib.Core.Bool.{cond}
+use mathlib.Core.List.{List, [], _++_}
+use lib.ListN.{length, replicate}
+use lib.Dec.{eqb, leb, ltb}
+use Rattle.turn.specs.Turn.{After, after}
+use Rattle.sheet.specs.declared.Field.the-variants.{Opening, Calling, Turning}
+use Rattle.sheet.specs.declared.Read.{Read}
+use Rattle.sheet.specs.declared.Read.the-variants.{Whole, Refused}
+use Rattle.sheet.specs.declared.Desk.{Desk}
+use Rattle.sheet.specs.Fields.{readField}
+use Rattle.sheet.specs.Line.{totalsLine, refusalLine}
+use Rattle.sheet.specs.Play.{Outcome, shutDesk, fieldDone}
+
+-- the board that is left, and the listing
+abbrev pub Ending : Type 0
+Ending = After (List ℕ)
+
+-- these lines first
+abbrev pub listedFirst : List ℕ → Ending → Ending
+listedFirst lines x = after (x .words) (lines ++ x .handed)
+
+-- "On a refusal instead 'R number offset', .. and nothing after."
+abbrev pub refused : ℕ → ℕ → After Desk → Ending
+refused number offset s = after (s .words) (refusalLine number offset)
+
+-- "at the end 'T turns changes lost full'"
+abbrev pub over : After Desk → Ending
+over s = after (s .words) (totalsLine (s .handed .totals))
+
+-- after the field at a place: its refusal, the end of the sheet, or the next field
+abbrev pub afterField : (ℕ → After Desk → Ending) → ℕ → ℕ → ℕ → Outcome → Ending
+afterField rest long at next o =
+    listedFirst (o .lines)
+    (cond (eqb (o .stop) 0)
+    (cond (eqb next long) (over (o .left)) (rest next (o .left)))
+    (refused (o .stop) at (o .left)))
+
+-- what was read at a place: "in a field 8 comes before the engine's refusals"
+abbrev pub oneField : (ℕ → After Desk → Ending) → List ℕ → ℕ → After Desk → Read → Ending
+oneField rest sheet at s (Refused place) = refused 8 place s
+oneField rest sheet at s (Whole field next) = afterField rest (length sheet) at next (fieldDone sheet field s)
+
+-- field after field from a place on, so many at most
+unfoldable pub fieldsFrom : ℕ → List ℕ → ℕ → After Desk → Ending
+fieldsFrom zero sheet at s = after (s .words) []
+fieldsFrom (suc more) sheet at s = oneField (fieldsFrom more sheet) sheet at s (readField sheet at)
+
+-- the sheet on a lent board: "Size (9) is tested first"; a sheet has no more fields than bytes, or one that is refused
+unfoldable pub played : List ℕ → List ℕ → Ending
+played sheet board =
+    cond (ltb 16384 (length sheet)) (refused 9 0 (after board shutDesk)) (fieldsFrom (suc (length sheet)) sheet 0 (after board shutDesk))
+
+-- the words of board that a reading asks for: "exactly 8N words"
+abbrev pub wordsFor : Read → ℕ
+wordsFor (Refused place) = 0
+wordsFor (Whole (Opening p) next) = cond (leb (p .buckets) 256) (8 * p .buckets) 0
+wordsFor (Whole (Calling c) next) = 0
+wordsFor (Whole (Turning t) next) = 0
+
+-- what a sheet's floor asks for, of the program's 2,048 words
+unfoldable pub wordsAsked : List ℕ → ℕ
+wordsAsked sheet = wordsFor (readField sheet 0)
+
+-- THE LISTING OF A SHEET, on as much of the program's own board as its floor asks for
+unfoldable pub listing : List ℕ → List ℕ
+listing sheet = played sheet (replicate (wordsAsked sheet) 0) .handed
