@@ -1,0 +1,29 @@
+// The program at the rostrum: reads a sheet from standard input, and writes its listing.
+ghost use Prim.Native.Nat.{_≤_};
+ghost use Rattle.sheet.specs.Listing.{listing};
+ghost use Rattle.sheet.specs.Room.{longest};
+ghost use Rattle.sheet.specs.Written.{Wrote};
+use sheet::LIMIT;
+use sheet::ROOM;
+
+// The listing of a sheet, on this program's own board.
+fn listed(sheet: &[u8], out: &mut [u8; ROOM]) -> usize
+    ensures { λ r. ⌜ Wrote (now (out .entry)) 0 (listing (now (sheet .entry))) (now (out .exit)) r × (r ≤ longest) ⌝ }
+{
+    let mut board = [0u64; 2048];
+    let words = sheet::words(sheet);
+    sheet::list(sheet, &mut board[..words], out)
+}
+
+fn main() {
+    let mut sheet = [0u8; LIMIT + 1];
+    let mut out = [0u8; ROOM];
+    let read = io::read_full(libc::STDIN_FILENO, &mut sheet);
+    let written = listed(&sheet[..read], &mut out);
+    if !io::write_all(libc::STDOUT_FILENO, &out[..written]) {
+        io::write_all(
+            libc::STDERR_FILENO,
+            b"rostrum: the listing was not written\n",
+        );
+    }
+}
