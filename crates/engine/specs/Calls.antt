@@ -127,6 +127,14 @@ standing board records totals stop = after board (record { records = records; to
 abbrev pub blank : Worker
 blank = record { kind = 0; place = 0; key = 0; ticket = 0; slot = 0; word = 0; held = 0; seen = 0 }
 
+-- a worker's record in a list
+abbrev pub recordIn : List Worker → ℕ → Worker
+recordIn records i = getD records i blank
+
+-- a worker's seat on a floor with this list
+abbrev pub seatIn : Floor → List Worker → ℕ → Seat
+seatIn f records i = record { floor = f; listed = length records; worker = i }
+
 -- what the turn of worker t came to: the run goes on from there, or "stops before the first refused turn; turns done stand"
 abbrev pub goOn : (After Ran → After Ran) → ℕ → ℕ → List ℕ → Worker → Answer → Ran → After Ran
 goOn rest t place board w (Refused number) r = standing board (r .records) (r .totals) number
@@ -141,7 +149,7 @@ oneTurn rest f t w s =
 -- the turns of a list from where a run stands: "A run of turns (worker numbers ..)"
 unfoldable pub runFrom : Floor → List ℕ → After Ran → After Ran
 runFrom f [] s = s
-runFrom f (t ∷ ts) s = oneTurn (runFrom f ts) f t (getD (s .handed .records) t blank) s
+runFrom f (t ∷ ts) s = oneTurn (runFrom f ts) f t (recordIn (s .handed .records) t) s
 
 -- a run: 1 and 9 refuse it whole
 unfoldable pub runCall : List ℕ → Floor → List Worker → ℕ → List ℕ → After Ran

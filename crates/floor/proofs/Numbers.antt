@@ -12,12 +12,12 @@ use Rattle.turn.specs.Turn.{After, after, numberOf}
 use Rattle.engine.specs.declared.Floor.{Floor}
 use Rattle.engine.specs.declared.Counted.{Counted}
 use Rattle.engine.specs.declared.Counted.the-variants.{Refusal, Lots}
-use Rattle.engine.specs.Calls.{countedNumber}
+use Rattle.engine.specs.Calls.{recordIn, seatIn, countedNumber}
 use Rattle.engine.specs.Promises.{TurnDone, CountDone}
 use Rattle.floor.specs.declared.TurnOutcome.{TurnOutcome}
 use Rattle.floor.specs.declared.CountOutcome.{CountOutcome}
 use Rattle.floor.specs.Told.{turnTold, countTold}
-use Rattle.floor.specs.Calls.{OnList, onList, seatIn, recordIn}
+use Rattle.floor.specs.Calls.{OnList, onList}
 use Rattle.floor.specs.Promises.{TurnLeft, CountLeft}
 
 -- the number of a turn's answer is the one that crosses

@@ -27,8 +27,7 @@ use denote.Struct.Laws as LL
 use Rattle.turn.specs.declared.Worker.{Worker}
 use Rattle.engine.specs.declared.Floor.{Floor}
 use Rattle.engine.specs.declared.Seat.{Seat}
-use Rattle.engine.specs.Calls.{blank}
-use Rattle.floor.specs.Calls.{seatIn}
+use Rattle.engine.specs.Calls.{blank, seatIn}
 use Rattle.engine.proofs.Floor as F
 use Rattle.engine.proofs.Floor.Laws as F′
 use Rattle.engine.proofs.Seat as S

@@ -11,10 +11,10 @@ use Rattle.turn.specs.declared.Answer.the-variants.{Refused}
 use Rattle.turn.specs.Turn.{after}
 use Rattle.engine.specs.declared.Floor.{Floor}
 use Rattle.engine.specs.Refusals.{startNumber, turnNumber}
-use Rattle.engine.specs.Calls.{blank, startCall}
+use Rattle.engine.specs.Calls.{blank, recordIn, seatIn, startCall}
 use Rattle.engine.proofs.Refused as engine
 use Rattle.floor.specs.Told.{turnTold}
-use Rattle.floor.specs.Calls.{onList, seatIn, recordIn, startIn, turnIn}
+use Rattle.floor.specs.Calls.{onList, startIn, turnIn}
 
 module _ (board : List ℕ) (records : List Worker) (f : Floor) (i : ℕ) where
   -- a look, an insert and a remove, each a start that may be late

@@ -9,9 +9,9 @@ use Rattle.turn.specs.Turn.{after}
 use Rattle.engine.specs.declared.Floor.{Floor}
 use Rattle.engine.specs.declared.Totals.{Totals}
 use Rattle.engine.specs.Refusals.{wrongSizes, eachNumber, turnNumber}
-use Rattle.engine.specs.Calls.{turned, turnCall, standing}
+use Rattle.engine.specs.Calls.{recordIn, turned, turnCall, standing}
 use Rattle.engine.proofs.Stops.{doneBy}
-use Rattle.floor.specs.Calls.{recordIn, turnIn}
+use Rattle.floor.specs.Calls.{turnIn}
 
 -- what a turn of worker t that is not refused leaves of the board and of the list, where the sizes are right
 pub desk-run-turn-is-turn :

@@ -39,7 +39,8 @@ use Rattle.engine.specs.declared.Floor.{Floor}
 use Rattle.engine.specs.declared.Seat.{Seat}
 use Rattle.engine.specs.declared.Started.{Started}
 use Rattle.floor.specs.Told.{startTold}
-use Rattle.floor.specs.Calls.{onList, seatIn, recordIn, startIn}
+use Rattle.engine.specs.Calls.{recordIn, seatIn}
+use Rattle.floor.specs.Calls.{onList, startIn}
 use Rattle.turn.proofs.Worker.Laws as T′
 use Rattle.engine.proofs.Floor as F
 use Rattle.engine.proofs.Floor.Laws as F′

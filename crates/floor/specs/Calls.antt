@@ -2,13 +2,13 @@
 -- and a run are the engine's openCall and runCall, with the list in the array's place and its length.
 use Prim.Native.Nat.{ℕ}
 use mathlib.Core.List.{List}
-use lib.ListN.{length, getD, set}
+use lib.ListN.{set}
 use Rattle.turn.specs.declared.Worker.{Worker}
 use Rattle.turn.specs.Turn.{After, after}
 use Rattle.engine.specs.declared.Floor.{Floor}
 use Rattle.engine.specs.declared.Seat.{Seat}
 use Rattle.engine.specs.declared.Started.{Started}
-use Rattle.engine.specs.Calls.{blank, turnCall}
+use Rattle.engine.specs.Calls.{recordIn, seatIn, turnCall}
 use Rattle.floor.specs.declared.Outcome.{Outcome}
 use Rattle.floor.specs.declared.TurnOutcome.{TurnOutcome}
 use Rattle.floor.specs.Told.{startTold, turnTold}
@@ -21,14 +21,6 @@ pub record OnList (A : Type 0) : Type 0 where
 -- this list, and this answer
 abbrev pub onList : {A : Type 0} → List Worker → A → OnList A
 onList records answer = record { records = records; answer = answer }
-
--- a worker's seat on a floor with this list
-abbrev pub seatIn : Floor → List Worker → ℕ → Seat
-seatIn f records i = record { floor = f; listed = length records; worker = i }
-
--- a worker's record in the list
-abbrev pub recordIn : List Worker → ℕ → Worker
-recordIn records i = getD records i blank
 
 -- a start: the record goes back into the list, and the number and the floor are handed back
 abbrev pub startIn : (Seat → Worker → Started) → List Worker → Floor → ℕ → OnList Outcome

@@ -7,12 +7,12 @@ use Rattle.turn.specs.declared.Worker.{Worker}
 use Rattle.turn.specs.Turn.{after}
 use Rattle.engine.specs.declared.Floor.{Floor}
 use Rattle.engine.specs.Refusals.{turnNumber, countNumber}
-use Rattle.engine.specs.Calls.{showCall, showStart, countCall}
+use Rattle.engine.specs.Calls.{recordIn, showCall, showStart, countCall}
 use Rattle.floor.specs.declared.TurnOutcome.{TurnOutcome}
 use Rattle.floor.specs.declared.Part.{Part}
 use Rattle.floor.specs.declared.CountOutcome.{CountOutcome}
 use Rattle.floor.specs.Told.{countTold}
-use Rattle.floor.specs.Calls.{onList, recordIn, turnIn}
+use Rattle.floor.specs.Calls.{onList, turnIn}
 
 -- a turn: the board and the list before and after, and what is handed back
 pub record TurnLeft (board : List ℕ) (records : List Worker) (f : Floor) (i : ℕ) (board′ : List ℕ) (records′ : List Worker)

@@ -3,7 +3,7 @@
 use Prim.Native.Nat.{ℕ, _-_}
 use mathlib.Core.Bool.{cond}
 use mathlib.Core.List.{List, [], _∷_, _++_}
-use lib.ListN.{getD, set, take, drop, replicate}
+use lib.ListN.{set, take, drop, replicate}
 use lib.Dec.{eqb}
 use Rattle.turn.specs.declared.Worker.{Worker}
 use Rattle.turn.specs.declared.Progress.{Progress}
@@ -18,7 +18,7 @@ use Rattle.engine.specs.declared.Seat.{Seat}
 use Rattle.engine.specs.declared.Opened.{Opened}
 use Rattle.engine.specs.declared.Started.{Started}
 use Rattle.engine.specs.declared.Totals.{Totals}
-use Rattle.engine.specs.Calls.{openCall, lookCall, insertCall, removeCall, turnCall, tallied, noTurns, blank}
+use Rattle.engine.specs.Calls.{openCall, lookCall, insertCall, removeCall, turnCall, tallied, noTurns, recordIn}
 use Rattle.sheet.specs.declared.Call.{Call}
 use Rattle.sheet.specs.declared.Span.{Span}
 use Rattle.sheet.specs.declared.Field.{Field}
@@ -46,7 +46,7 @@ seatOf d i = record { floor = d .floor; listed = d .floor .workers; worker = i }
 
 -- a worker's record, and a blank for a number that has none
 abbrev pub recordOf : Desk → ℕ → Worker
-recordOf d i = getD (d .records) i blank
+recordOf d i = recordIn (d .records) i
 
 -- ---- floor
 

@@ -33,7 +33,7 @@ use denote.Exit.{yes}
 use Rattle.engine.specs.declared.Seat.{Seat}
 use Rattle.engine.specs.Promises.{TurnDone}
 use Rattle.floor.specs.Told.{turnTold}
-use Rattle.floor.specs.Calls.{seatIn}
+use Rattle.engine.specs.Calls.{seatIn}
 use Rattle.turn.proofs.Turned as O
 use Rattle.turn.proofs.Turned.Laws as O′
 use Rattle.engine.proofs.Floor as F
