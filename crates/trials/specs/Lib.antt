@@ -1,0 +1,2 @@
+pub mod Trial
+pub mod Trials
