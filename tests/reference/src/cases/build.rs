@@ -1,0 +1,231 @@
+//! What cases are made of: sound words, buckets and records, small and likely to meet, and sound cases of every call.
+
+use crate::case::{self, Case};
+use crate::desk::{Floor, List};
+use crate::memory::BUCKET_WORDS;
+use crate::random::Random;
+use crate::record::{Record, INSERT, LOOK, NONE, REMOVE};
+use crate::word::Snapshot;
+
+/// Numbers at the ends of bytes, half words, words and the number format.
+pub const EDGES: [u64; 12] = [
+    0,
+    1,
+    3,
+    247,
+    248,
+    255,
+    256,
+    4_294_967_295,
+    4_294_967_296,
+    1 << 63,
+    u64::MAX - 1,
+    u64::MAX,
+];
+
+/// The places of each kind.
+pub fn places(kind: u8) -> &'static [u8] {
+    match kind {
+        LOOK => &[2, 3, 4, 5],
+        INSERT => &[1, 2, 3, 4, 5, 6, 7, 8, 9, 10],
+        _ => &[1, 11, 12, 13],
+    }
+}
+
+/// What held may be for a kind at a place.
+pub fn helds(kind: u8, place: u8) -> &'static [u8] {
+    match (kind, place) {
+        (INSERT, 1..=5) => &[0, 1, 2, 3],
+        (INSERT, 7..=10) => &[0, 1, 2],
+        _ => &[NONE],
+    }
+}
+
+impl Random {
+    /// A small number, so that keys and values meet, or seldom one at an edge.
+    pub fn value(&mut self) -> u64 {
+        if self.once_in(16) {
+            return self.pick(&EDGES);
+        }
+        self.below(6)
+    }
+
+    pub fn version(&mut self) -> u32 {
+        if self.once_in(10) {
+            return u32::MAX;
+        }
+        self.below(3) as u32
+    }
+
+    pub fn slot(&mut self) -> u8 {
+        self.below(3) as u8
+    }
+
+    pub fn busy_kind(&mut self) -> u8 {
+        self.pick(&[LOOK, INSERT, REMOVE])
+    }
+
+    /// A sound mark word.
+    pub fn word(&mut self) -> u64 {
+        let version = self.version();
+        let map = [self.slot(), self.slot(), self.slot()];
+        mark_word(version, map)
+    }
+
+    /// A sound bucket.
+    pub fn bucket(&mut self) -> [u64; BUCKET_WORDS] {
+        let mut words = [0; BUCKET_WORDS];
+        words[0] = self.word();
+        for word in &mut words[1..7] {
+            *word = self.value();
+        }
+        words
+    }
+
+    /// A sound busy record.
+    pub fn record(&mut self, kind: u8, place: u8) -> Record {
+        Record {
+            kind,
+            place,
+            key: self.value(),
+            ticket: if kind == INSERT { self.ticket() } else { 0 },
+            slot: self.slot(),
+            word: if kind == LOOK { 0 } else { self.word() },
+            held: self.pick(helds(kind, place)),
+            seen: self.value(),
+        }
+    }
+
+    pub fn any_record(&mut self) -> Record {
+        let kind = self.busy_kind();
+        let place = self.pick(places(kind));
+        self.record(kind, place)
+    }
+
+    pub fn ticket(&mut self) -> u32 {
+        if self.once_in(16) {
+            return u32::MAX;
+        }
+        1 + self.below(8) as u32
+    }
+
+    /// Mostly 1, so that cases are short.
+    pub fn few(&mut self) -> u64 {
+        self.pick(&[1, 1, 1, 2, 2, 3])
+    }
+
+    /// A case that is not refused, of small sizes.
+    pub fn sound(&mut self, call: u8) -> Case {
+        let (w, n) = (self.few(), self.few());
+        self.sound_sized(call, w, n)
+    }
+
+    /// A case that is not refused, with W and N as asked.
+    pub fn sound_sized(&mut self, call: u8, w: u64, n: u64) -> Case {
+        let worker = self.below(w);
+        let mut records = vec![Record::idle(); w as usize];
+        // of a long list the first records and the last, so that its lines stay short
+        for at in (0..w).filter(|at| *at < 3 || at + 1 == w) {
+            if !self.once_in(3) {
+                records[at as usize] = self.any_record();
+            }
+        }
+        let mut case = Case {
+            call,
+            floor: Floor {
+                workers: w,
+                buckets: n,
+                last_ticket: self.below(9) as u32,
+            },
+            worker,
+            lot: self.value(),
+            ticket: 0,
+            board: self.board(n),
+            list: List { length: w, records },
+            turns: Vec::new(),
+        };
+        self.fit(&mut case);
+        case
+    }
+
+    /// Makes what the call itself is given acceptable.
+    fn fit(&mut self, case: &mut Case) {
+        let worker = case.worker as usize;
+        match case.call {
+            case::OPEN => {
+                (case.worker, case.lot) = (case.floor.workers, case.floor.buckets);
+                case.ticket = self.version();
+                case.floor.workers = self.value();
+                case.floor.buckets = self.value();
+            }
+            case::LOOK | case::INSERT | case::REMOVE => {
+                case.list.records[worker] = Record::idle();
+                case.ticket = case.floor.last_ticket + 1 + self.below(3) as u32;
+            }
+            case::TURN | case::RUN => {
+                case.list.records[worker] = self.any_record();
+                case.turns = vec![worker as u8; 1];
+            }
+            _ => (),
+        }
+    }
+
+    /// A sound board; a large one is empty but for three buckets.
+    pub fn board(&mut self, n: u64) -> Vec<u64> {
+        let mut words = vec![0; BUCKET_WORDS * n as usize];
+        for _ in 0..n.min(3) {
+            let start = BUCKET_WORDS * self.below(n) as usize;
+            words[start..start + BUCKET_WORDS].copy_from_slice(&self.bucket());
+        }
+        words
+    }
+
+    /// A turn of a worker with this record on a bucket of these words.
+    pub fn turn_of(&mut self, record: Record, bucket: [u64; BUCKET_WORDS]) -> Case {
+        let mut case = self.sound(case::TURN);
+        case.list.records[case.worker as usize] = record;
+        set_bucket(&mut case, record.key, bucket);
+        case
+    }
+}
+
+/// The mark word of a version and marks.
+pub fn mark_word(version: u32, map: [u8; 3]) -> u64 {
+    let word = Snapshot {
+        version,
+        map,
+        byte_7: 0,
+    };
+    word.snapshot()
+}
+
+/// The bucket of a lot gets these words.
+pub fn set_bucket(case: &mut Case, lot: u64, bucket: [u64; BUCKET_WORDS]) {
+    let start = BUCKET_WORDS * (lot % case.floor.buckets) as usize;
+    case.board[start..start + BUCKET_WORDS].copy_from_slice(&bucket);
+}
+
+/// W is another, and the list as long as that.
+pub fn set_workers(case: &mut Case, w: u64) {
+    match case.call {
+        case::OPEN => case.worker = w,
+        _ => case.floor.workers = w,
+    }
+    set_list(case, w);
+}
+
+/// N is another, and nothing else.
+pub fn set_buckets(case: &mut Case, n: u64) {
+    match case.call {
+        case::OPEN => case.lot = n,
+        _ => case.floor.buckets = n,
+    }
+}
+
+/// The list is of another length; records are dropped at its end, or idle ones put there.
+pub fn set_list(case: &mut Case, length: u64) {
+    case.list.length = length;
+    case.list
+        .records
+        .resize(length.min(case::MOST_RECORDS) as usize, Record::idle());
+}

@@ -1,0 +1,224 @@
+//! Random cases: histories on opened boards, sound states with one thing spoilt, and bytes of any sort.
+
+use super::build::EDGES;
+use super::Bodies;
+use crate::case::{self, Case, COUNT, INSERT, LOOK, OPEN, REMOVE, RUN, SHOW, TURN};
+use crate::desk::{Floor, List};
+use crate::outcome::outcome;
+use crate::random::Random;
+use crate::record::Record;
+
+const HISTORIES: usize = 50;
+const STEPS: u64 = 40;
+const SPOILT: usize = 900;
+const BYTES: usize = 500;
+
+pub fn make(bodies: &mut Bodies) {
+    for _ in 0..HISTORIES {
+        history(bodies);
+    }
+    for _ in 0..SPOILT {
+        let case = spoilt(&mut bodies.random);
+        bodies.push(case);
+    }
+    for _ in 0..BYTES {
+        let body = bytes(&mut bodies.random);
+        bodies.bodies.push(body);
+    }
+}
+
+/// An opening and calls after it, each on what the one before left; each call is a case of its own.
+fn history(bodies: &mut Bodies) {
+    let mut case = opening(&mut bodies.random);
+    let lots = [0, 1, 2, 3].map(|lot| lot * case.lot + bodies.random.below(2));
+    let lots = &lots[..2 + bodies.random.below(3) as usize];
+    let from = bodies.random.below(60);
+    for step in 0..from + STEPS {
+        if step >= from || step == 0 {
+            bodies.push(case.clone());
+        }
+        let after = outcome(&case);
+        case.floor = after.floor;
+        case.board = after.board;
+        case.list.records = after.records;
+        next_call(&mut bodies.random, &mut case, lots);
+    }
+}
+
+fn opening(random: &mut Random) -> Case {
+    let w = random.pick(&[1, 2, 2, 3, 3, 4]);
+    let n = random.pick(&[1, 1, 1, 2]);
+    Case {
+        call: OPEN,
+        floor: Floor {
+            workers: 0,
+            buckets: 0,
+            last_ticket: 0,
+        },
+        worker: w,
+        lot: n,
+        ticket: random.version(),
+        board: vec![0; 8 * n as usize],
+        list: List {
+            length: w,
+            records: vec![Record::idle(); w as usize],
+        },
+        turns: Vec::new(),
+    }
+}
+
+/// Chooses what is called next: mostly a turn of a worker that is busy, or a start of one that is idle.
+fn next_call(random: &mut Random, case: &mut Case, lots: &[u64]) {
+    let w = case.floor.workers;
+    case.turns.clear();
+    case.worker = random.below(w);
+    case.lot = random.pick(lots);
+    case.ticket = case.floor.last_ticket.saturating_add(1);
+    let idle = case.list.records[case.worker as usize].is_idle();
+    case.call = match random.below(40) {
+        0 => SHOW,
+        1 => COUNT,
+        2 => random.pick(&[LOOK, INSERT, REMOVE, TURN]),
+        3..=7 => RUN,
+        _ if idle => random.pick(&[LOOK, INSERT, INSERT, INSERT, REMOVE]),
+        _ => TURN,
+    };
+    if random.once_in(60) {
+        case.worker = w;
+    }
+    if random.once_in(40) {
+        case.ticket = case.floor.last_ticket;
+    }
+    if case.call == RUN {
+        for _ in 0..1 + random.below(4) {
+            let worker = random.below(w) as u8;
+            let burst = 1 + random.below(7) as usize;
+            case.turns.extend(vec![worker; burst]);
+        }
+    }
+}
+
+/// A sound case with one thing in it spoilt, which may leave it sound.
+fn spoilt(random: &mut Random) -> Case {
+    let call = random.pick(&[
+        OPEN, LOOK, INSERT, REMOVE, TURN, TURN, TURN, TURN, TURN, RUN, RUN, SHOW, COUNT,
+    ]);
+    let mut case = random.sound(call);
+    let edge = random.pick(&EDGES);
+    match random.below(8) {
+        0 => spoil_sizes(random, &mut case),
+        1 => case.worker = edge,
+        2 => case.ticket = edge as u32,
+        3 => case.floor.last_ticket = edge as u32,
+        4 | 5 => spoil_word(random, &mut case.board),
+        _ => {
+            let at = match random.once_in(4) {
+                true => random.below(case.list.records.len() as u64),
+                false => case.worker % case.list.records.len() as u64,
+            };
+            spoil_record(random, &mut case.list.records[at as usize]);
+        }
+    }
+    case
+}
+
+fn spoil_sizes(random: &mut Random, case: &mut Case) {
+    let edge = random.pick(&EDGES);
+    match random.below(4) {
+        0 => case.floor.workers = edge,
+        1 => case.floor.buckets = edge,
+        2 => case.board.resize(random.below(26) as usize, 0),
+        _ => super::build::set_list(case, edge),
+    }
+}
+
+/// One byte of a word, so that marks, byte 7 and versions are met as well as keys.
+fn spoil_word(random: &mut Random, board: &mut [u64]) {
+    let at = random.below(board.len() as u64) as usize;
+    let mut bytes = board[at].to_le_bytes();
+    bytes[random.below(8) as usize] = match random.once_in(2) {
+        true => random.any() as u8,
+        false => random.pick(&[0, 1, 2, 3, 255]),
+    };
+    board[at] = u64::from_le_bytes(bytes);
+}
+
+fn spoil_record(random: &mut Random, record: &mut Record) {
+    let edge = random.pick(&EDGES);
+    match random.below(8) {
+        0 => record.kind = random.pick(&[0, 1, 2, 3, 4, 255]),
+        1 => record.place = random.below(16) as u8,
+        2 => record.key = edge,
+        3 => record.ticket = edge as u32,
+        4 => record.slot = random.below(5) as u8,
+        5 => {
+            let mut word = [record.word];
+            spoil_word(random, &mut word);
+            record.word = word[0];
+        }
+        6 => record.held = random.below(5) as u8,
+        _ => record.seen = edge,
+    }
+}
+
+/// Bytes: of any value, of small values, or the bytes of a case with something changed, cut or put behind.
+fn bytes(random: &mut Random) -> Vec<u8> {
+    match random.below(8) {
+        0 => row(random, 256),
+        1 => row(random, 4),
+        2 => row(random, 250),
+        3 | 4 => likely(random),
+        _ => {
+            let mut body = spoilt(random).write();
+            change(random, &mut body);
+            body
+        }
+    }
+}
+
+fn row(random: &mut Random, below: u64) -> Vec<u8> {
+    let length = random.below(100);
+    (0..length).map(|_| random.below(below) as u8).collect()
+}
+
+/// A turn or a run on one worker and one bucket, all else of small bytes, so that it is often sound.
+fn likely(random: &mut Random) -> Vec<u8> {
+    let call = random.pick(&[case::TURN, case::RUN]);
+    let mut body = vec![call, 1, 1, random.below(4) as u8, 0, 0, 0, 8];
+    // the mark word in its long form, and the other words in short groups
+    body.extend([
+        0,
+        254,
+        random.slot(),
+        random.slot(),
+        random.slot(),
+        0,
+        0,
+        0,
+        0,
+    ]);
+    for _ in 0..6 {
+        body.extend([0, random.below(3) as u8]);
+    }
+    body.extend([0, 0, 1, 0]);
+    body.extend([random.below(4) as u8, random.below(14) as u8]);
+    for bound in [3, 3, 3] {
+        body.push(random.below(bound) as u8);
+    }
+    body.extend([254, random.slot(), random.slot(), random.slot(), 0, 0, 0, 0]);
+    body.extend([random.below(4) as u8, random.below(3) as u8]);
+    body.extend([0, 0, 1 + random.below(20) as u8]);
+    body
+}
+
+fn change(random: &mut Random, body: &mut Vec<u8>) {
+    let at = random.below(body.len() as u64) as usize;
+    match random.below(3) {
+        0 => body[at] = random.below(256) as u8,
+        1 => body.truncate(at),
+        _ => {
+            let more = row(random, 256);
+            body.extend(more);
+        }
+    }
+}

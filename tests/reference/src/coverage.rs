@@ -1,0 +1,74 @@
+//! What the stored cases must meet. A point counts by what a case and its outcome are, not by what the case was made for.
+
+mod broken;
+mod places;
+mod points;
+mod ranges;
+mod refusals;
+
+use crate::case::Case;
+use crate::outcome::Outcome;
+use std::collections::HashMap;
+use std::fmt::Write;
+
+/// How often each point was met.
+pub struct Coverage {
+    cases: u64,
+    met: HashMap<String, u64>,
+}
+
+impl Coverage {
+    pub fn of<'a>(seen: impl Iterator<Item = (&'a Case, &'a Outcome)>) -> Coverage {
+        let mut coverage = Coverage {
+            cases: 0,
+            met: HashMap::new(),
+        };
+        for (case, outcome) in seen {
+            coverage.see(case, outcome);
+        }
+        coverage
+    }
+
+    fn see(&mut self, case: &Case, outcome: &Outcome) {
+        let mut met = Vec::new();
+        refusals::see(case, outcome, &mut met);
+        broken::see(case, outcome, &mut met);
+        places::see(case, outcome, &mut met);
+        ranges::see(case, outcome, &mut met);
+        met.sort();
+        met.dedup();
+        for point in met {
+            *self.met.entry(point).or_default() += 1;
+        }
+        self.cases += 1;
+    }
+
+    fn count(&self, point: &str) -> u64 {
+        self.met.get(point).copied().unwrap_or(0)
+    }
+
+    /// The points that no case meets.
+    pub fn unmet(&self) -> Vec<String> {
+        let mut unmet = points::points();
+        unmet.retain(|point| self.count(point) == 0);
+        unmet
+    }
+
+    /// Every point with its count.
+    pub fn report(&self) -> String {
+        let points = points::points();
+        let mut report = String::new();
+        for point in &points {
+            writeln!(report, "{:6}  {point}", self.count(point)).expect("a string takes any text");
+        }
+        let met = points.len() - self.unmet().len();
+        writeln!(
+            report,
+            "{} cases, {met} of {} points met",
+            self.cases,
+            points.len()
+        )
+        .expect("a string takes any text");
+        report
+    }
+}

@@ -1,0 +1,167 @@
+//! The points, by name. `{a,b}` stands for one point with a and one with b.
+
+const POINTS: &[&str] = &[
+    // every number of every call
+    "open gives {0,1}",
+    "{look,remove} gives {0,1,2,3,4}",
+    "insert gives {0,1,2,3,4,5}",
+    "turn gives {0,1,2,3,6,7}",
+    "run gives {0,1,9}",
+    "run is stopped by {2,3,6,7} {at once,later}",
+    "{show,count} gives {0,1,7}",
+    // the order of the numbers, where two apply. A worker that is not there has no record, so 2 never meets 3, 4, 6 or 7; an idle
+    // record is not broken, so 3 never meets 6; a start and a turn never meet in one call, so 4 and 5 never meet 6 and 7.
+    "{look,insert,remove}: 1 before {2,3,4}",
+    "{look,insert,remove}: 3 before 4",
+    "insert: {1,2,3,4} before 5",
+    "turn: 1 before {2,3,6,7}",
+    "turn: {3,6} before 7",
+    "run: 1 before {2,3,6,7,9}",
+    "run: 9 before {2,3,6,7}",
+    "run: {3,6} before 7",
+    "{show,count}: 1 before 7",
+    // the causes of 1, each alone
+    "{open,look,insert,remove,turn,run,show,count}: 1 by {W 0,W 65,W 2^32+1,W 2^64-1,N 0,N 257,N 2^32+1,N 2^64-1,an N whose 8N wraps}",
+    "{open,look,insert,remove,turn,run,show,count}: 1 by a board {empty,one word short,one word long,of 2040 words for N 256}",
+    "{open,look,insert,remove,turn,run}: 1 by a list {empty,one short,one long,of W+256,of W+2^32,of 2^64-1}",
+    "{show,count}: 0 with a list {empty,one short,one long,of W+256,of W+2^32,of 2^64-1}",
+    "{show,count}: 0 with a broken record",
+    "open: 0 {over a broken bucket,with a last ticket,with a floor outside its ranges}",
+    "open: 0 over a {broken,busy} record of worker {0,63}",
+    // the causes of a broken record, each alone
+    "{start,turn,run}: broken record, kind {4,255}",
+    "{start,turn,run}: broken record, idle with {a place,a key,a ticket,a slot,a word,a seen}",
+    "{start,turn,run}: broken record, idle with held {0,1,2,4,255}",
+    "{start,turn,run}: broken record, look at {0,1,6,255}",
+    "{start,turn,run}: broken record, insert at {0,11,255}",
+    "{start,turn,run}: broken record, remove at {0,2,10,14,255}",
+    "{start,turn,run}: broken record, insert with ticket 0",
+    "{start,turn,run}: broken record, {look,remove} with ticket {1,4294967295}",
+    "{start,turn,run}: broken record, {look,remove} with held {0,1,2,4,255}",
+    "{start,turn,run}: broken record, insert at {1,2,3,4,5} with held {4,255}",
+    "{start,turn,run}: broken record, insert at 6 with held {0,1,2,4,255}",
+    "{start,turn,run}: broken record, insert at {7,8,9,10} with held {3,4,255}",
+    "{start,turn,run}: broken record, {look,insert,remove} with slot {3,255}",
+    "{start,turn,run}: broken record, {insert,remove} with mark {3,4,128,255} at {0,1,2} in its word",
+    "{start,turn,run}: broken record, {insert,remove} with byte 7 {1,2,128,255} in its word",
+    "{start,turn,run}: broken record, look with {a version,mark 1,mark 2,mark 3} in its word",
+    // the sound ends of the same ranges
+    "turn: sound look at {2,3,4,5}",
+    "turn: sound insert at {1,2,3,4,5} held {0,1,2,3}",
+    "turn: sound insert at 6 held 3",
+    "turn: sound insert at {7,8,9,10} held {0,1,2}",
+    "turn: sound remove at {1,11,12,13}",
+    "turn: sound {look,insert,remove} slot {0,1,2}",
+    "turn: sound {insert,remove} mark {0,1,2} at {0,1,2} in its word",
+    "turn: sound {insert,remove} version {0,4294967295} in its word",
+    "turn: sound insert ticket {1,4294967295}",
+    "{look,insert,remove,turn,run}: 0 with a broken record elsewhere",
+    // the causes of a broken bucket, each alone
+    "{turn,run,show,count}: 7 by mark {3,4,128,255} at {0,1,2}",
+    "{turn,run,show,count}: 7 by byte 7 {1,2,128,255}",
+    "{turn,run,show,count}: 7 by the spare word {1,1099511627776,9223372036854775808}",
+    "{turn,run,show}: 0 with a broken bucket elsewhere",
+    "count: 7 by bucket {0,N-1} alone",
+    "{look,insert,remove}: 0 on a broken bucket",
+    // every place by every kind, every outcome
+    "at 1 insert slot {0,1,2} held {0,1,2,3}",
+    "at 1 remove slot {0,1,2}",
+    "at 2 {look,insert} slot {0,1,2}",
+    "at 3 {look,insert} slot {0,1,2} mark {0,1,2}",
+    "at 4 {look,insert} slot {0,1,2} {equal,not equal}",
+    "at 5 {look,insert} slot {0,1,2} {equal and not 0,equal and 0,not equal,seen 0 alone,value 0 alone}",
+    "found from slot {0,1,2}: look ends with seen",
+    "found from slot {0,1,2}: insert ends with 0",
+    "found from slot {0,1,2}: insert holding {0,1,2} to 10",
+    "empty from {3,4,5}: look ends with 0",
+    "empty from {3,4,5}: insert holding {0,1,2} to 9",
+    "empty from {3,4,5}: insert to 6 with slot {0,1,2}",
+    "empty from {3,4,5}: full round",
+    "at 6 slot {0,1,2} mark {0,1,2} {won,lost}",
+    "at 9 held {0,1,2} mark {0,1,2} {won,lost}",
+    "at 13 slot {0,1,2} mark {0,1,2} {won,lost}",
+    "at {6,9,13} lost by {the version,mark 0,mark 1,mark 2} alone",
+    "at 9 lost to the word without its mark 2",
+    "at 6 won by a word that stays as it is",
+    "at 13 won by a word that stays as it is",
+    "at {7,8,10} held {0,1,2} slot {0,1,2}",
+    "at 10 held {0,1,2} mark {0,1,2}",
+    "at 11 slot {0,1,2} {equal,not equal}, mark {0,1,2} in the word, {0,1,2} on the board",
+    "at 12 slot {0,1,2}",
+    "at 13 ends with {0,more,2^64-1}",
+    "at 9 version 4294967295 to 0 held {0,1,2}, other marks {00,01,02,10,11,12,20,21,22}",
+    // both ends of every range
+    "{open,look,insert,remove,turn,run,show,count}: 0 with {W 1,W 64,N 1,N 256}",
+    "{look,insert,remove,turn}: 0 with worker {0,W-1,63}",
+    "{look,insert,remove,turn}: 2 with worker {W,64 of 64,256,4294967296,2^64-1}",
+    "{look,insert,remove}: {3,4} for worker 63",
+    "{turn,run}: {3,6,7} for worker 63",
+    "run: worker {0,W-1,63} goes on",
+    "run: worker {W,64 of 64,255} stops it",
+    "{look,insert,remove,turn,show}: 0 with lot {0,2^64-1}",
+    "{turn,show}: 0 in bucket {0,N-1,255}",
+    "at {4,11} equal with key {0,2^64-1}",
+    "at {2,12} reads {0,2^64-1}",
+    "at 5 finds 2^64-1",
+    "at 7 stores {1,4294967295}",
+    "at 8 stores {0,2^64-1}",
+    "open: 0 with version {0,4294967295}",
+    "insert: 5 with ticket {0 after 0,1 after 1,0 after 4294967295,4294967295 after itself,one less than the last}",
+    "insert: 0 with ticket {1 after 0,one more than the last,4294967295,4294967295 after 4294967294}",
+    "{look,remove}: 0 after 4294967295",
+    "run: 0 of {0,1,65535} turns",
+    "run: turn 65535 stops it",
+    "run: 9 of {65536,65540} turns",
+    "count: {0,1,768} lots",
+    "count: mark {1,2} alone",
+    // runs
+    "run: a call ends and its worker is idle then",
+    "run: a refused turn stands before others",
+    "run: changes, lost swaps and full rounds",
+    "run: several workers in {one bucket,several buckets}",
+    "run: two calls end",
+    // the trials that are not proved together
+    "trial: an insert's first 8 turns leave 8589934592",
+    "trial: beside it a look of 6 turns ends with 0",
+];
+
+/// Every point by its name.
+pub fn points() -> Vec<String> {
+    POINTS.iter().flat_map(|pattern| expand(pattern)).collect()
+}
+
+/// All that a pattern stands for.
+fn expand(pattern: &str) -> Vec<String> {
+    let Some((before, rest)) = pattern.split_once('{') else {
+        return vec![pattern.to_string()];
+    };
+    let (choices, after) = rest.split_once('}').expect("a brace is closed");
+    let tails = expand(after);
+    let mut all = Vec::new();
+    for choice in choices.split(',') {
+        all.extend(tails.iter().map(|tail| format!("{before}{choice}{tail}")));
+    }
+    all
+}
+
+#[cfg(test)]
+mod tests {
+    use super::*;
+
+    #[test]
+    fn braces() {
+        assert_eq!(
+            expand("a {b,c} d{e,f}").join(";"),
+            "a b de;a b df;a c de;a c df"
+        );
+    }
+
+    #[test]
+    fn no_point_twice() {
+        let mut all = points();
+        let count = all.len();
+        all.sort();
+        all.dedup();
+        assert_eq!(all.len(), count);
+    }
+}

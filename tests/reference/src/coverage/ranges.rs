@@ -1,0 +1,233 @@
+//! Both ends of every range, the runs as a whole, and the trials.
+
+use super::refusals::{length_of_list, sizes, worker_of};
+use crate::case::{self, Case, NAMES};
+use crate::desk::{Counts, MOST_TURNS};
+use crate::outcome::{Answer, Outcome};
+use crate::record::{INSERT, LOOK};
+use crate::word::Snapshot;
+
+/// The mark word that an insert leaves after eight turns on an opened board.
+const BEING_INSERTED: u64 = 8_589_934_592;
+
+pub fn see(case: &Case, outcome: &Outcome, met: &mut Vec<String>) {
+    let number = outcome.answer.number();
+    match number {
+        0 => see_accepted(case, outcome, met),
+        2 => see_worker(case, met),
+        5 => see_spent_ticket(case, met),
+        3 | 4 | 6 | 7 => see_last_worker(case, outcome, met),
+        9 => met.push(format!("run: 9 of {} turns", case.turns.len())),
+        _ => (),
+    }
+    if let Answer::Run(number, counts) = &outcome.answer {
+        see_run(case, outcome, *number, counts, met);
+        see_trials(case, outcome, *number, met);
+    }
+}
+
+fn see_accepted(case: &Case, outcome: &Outcome, met: &mut Vec<String>) {
+    let name = NAMES[case.call as usize];
+    let (w, n) = sizes(case);
+    met.push(format!("{name}: 0 with W {w}"));
+    met.push(format!("{name}: 0 with N {n}"));
+    if let (Some(worker), true) = (worker_of(case), case.call != case::RUN) {
+        met.push(format!("{name}: 0 with worker {worker}"));
+        if worker == w - 1 {
+            met.push(format!("{name}: 0 with worker W-1"));
+        }
+    }
+    match case.call {
+        case::OPEN => met.push(format!("open: 0 with version {}", case.ticket)),
+        case::INSERT => see_ticket(case, met),
+        case::LOOK | case::REMOVE => {
+            met.push(format!("{name}: 0 after {}", case.floor.last_ticket))
+        }
+        case::SHOW | case::COUNT => see_list(case, name, met),
+        _ => (),
+    }
+    see_lot(case, n, met);
+    if let Answer::Count(Ok(lots)) = outcome.answer {
+        see_count(case, lots, met);
+    }
+}
+
+fn see_lot(case: &Case, n: u64, met: &mut Vec<String>) {
+    let name = NAMES[case.call as usize];
+    let lot = match case.call {
+        case::LOOK | case::INSERT | case::REMOVE | case::SHOW => case.lot,
+        case::TURN => case.list.records[case.worker as usize].key,
+        _ => return,
+    };
+    match lot {
+        0 => met.push(format!("{name}: 0 with lot 0")),
+        u64::MAX => met.push(format!("{name}: 0 with lot 2^64-1")),
+        _ => (),
+    }
+    if n > 1 {
+        met.push(format!("{name}: 0 in bucket {}", lot % n));
+        if lot % n == n - 1 {
+            met.push(format!("{name}: 0 in bucket N-1"));
+        }
+    }
+}
+
+/// "list not W records where the call takes one (show and count don't ...)"
+fn see_list(case: &Case, name: &str, met: &mut Vec<String>) {
+    let (length, w) = (case.list.length, case.floor.workers);
+    if length != w {
+        met.push(format!("{name}: 0 with {}", length_of_list(length, w)));
+    }
+}
+
+fn see_worker(case: &Case, met: &mut Vec<String>) {
+    if case.call == case::RUN {
+        return;
+    }
+    let name = NAMES[case.call as usize];
+    let shown = match case.worker {
+        u64::MAX => "2^64-1".to_string(),
+        worker => worker.to_string(),
+    };
+    met.push(format!("{name}: 2 with worker {shown}"));
+    if case.worker == case.floor.workers {
+        met.push(format!("{name}: 2 with worker W"));
+        met.push(format!("{name}: 2 with worker {shown} of {shown}"));
+    }
+}
+
+/// The last record of the longest list is looked at like any other.
+fn see_last_worker(case: &Case, outcome: &Outcome, met: &mut Vec<String>) {
+    if worker_of(case) == Some(63) && outcome.told.is_empty() {
+        let name = NAMES[case.call as usize];
+        let number = outcome.answer.number();
+        met.push(format!("{name}: {number} for worker 63"));
+    }
+}
+
+fn see_ticket(case: &Case, met: &mut Vec<String>) {
+    let (ticket, last) = (case.ticket, case.floor.last_ticket);
+    met.push(format!("insert: 0 with ticket {ticket} after {last}"));
+    if ticket == u32::MAX {
+        met.push("insert: 0 with ticket 4294967295".into());
+    }
+    if ticket == last + 1 {
+        met.push("insert: 0 with ticket one more than the last".into());
+    }
+}
+
+fn see_spent_ticket(case: &Case, met: &mut Vec<String>) {
+    let (ticket, last) = (case.ticket, case.floor.last_ticket);
+    met.push(format!("insert: 5 with ticket {ticket} after {last}"));
+    if ticket == u32::MAX {
+        met.push("insert: 5 with ticket 4294967295 after itself".into());
+    }
+    if ticket.checked_add(1) == Some(last) {
+        met.push("insert: 5 with ticket one less than the last".into());
+    }
+}
+
+fn see_count(case: &Case, lots: u64, met: &mut Vec<String>) {
+    met.push(format!("count: {lots} lots"));
+    let mut marks: Vec<u8> = case
+        .board
+        .chunks(8)
+        .flat_map(|bucket| Snapshot::of(bucket[0]).map)
+        .filter(|&mark| mark != 0)
+        .collect();
+    marks.dedup();
+    if let [mark] = marks[..] {
+        met.push(format!("count: mark {mark} alone"));
+    }
+}
+
+fn see_run(case: &Case, outcome: &Outcome, number: u8, counts: &Counts, met: &mut Vec<String>) {
+    let turns = case.turns.len();
+    let done = counts.turns as usize;
+    if number == 0 {
+        met.push(format!("run: 0 of {turns} turns"));
+    }
+    for (worker, ..) in &outcome.told {
+        met.push(format!("run: worker {worker} goes on"));
+        if u64::from(*worker) + 1 == case.floor.workers {
+            met.push("run: worker W-1 goes on".into());
+        }
+    }
+    met.dedup();
+    let totals = [counts.changes, counts.lost, counts.full_rounds];
+    if totals.iter().all(|&total| total > 0) {
+        met.push("run: changes, lost swaps and full rounds".into());
+    }
+    let ended = |(_, _, report): &&crate::outcome::Told| report.ended.is_some();
+    if outcome.told.iter().filter(ended).count() >= 2 {
+        met.push("run: two calls end".into());
+    }
+    see_workers(case, outcome, met);
+    if !matches!(number, 2 | 3 | 6 | 7) {
+        return;
+    }
+    let stopper = case.turns[done];
+    if done + 1 == MOST_TURNS {
+        met.push("run: turn 65535 stops it".into());
+    }
+    if done + 1 < turns {
+        met.push("run: a refused turn stands before others".into());
+    }
+    if number == 2 {
+        met.push(format!("run: worker {stopper} stops it"));
+        if u64::from(stopper) == case.floor.workers {
+            met.push("run: worker W stops it".into());
+            met.push(format!("run: worker {stopper} of {stopper} stops it"));
+        }
+    }
+    let mut told = outcome.told.iter().rev();
+    let last = told.find(|(worker, ..)| *worker == stopper);
+    if number == 6 && last.as_ref().is_some_and(ended) {
+        met.push("run: a call ends and its worker is idle then".into());
+    }
+}
+
+fn see_workers(case: &Case, outcome: &Outcome, met: &mut Vec<String>) {
+    let Some((first, record, _)) = outcome.told.first() else {
+        return;
+    };
+    let n = case.floor.buckets;
+    for (worker, other, _) in &outcome.told {
+        if worker != first {
+            let buckets = match other.key % n == record.key % n {
+                true => "one bucket",
+                false => "several buckets",
+            };
+            met.push(format!("run: several workers in {buckets}"));
+            return;
+        }
+    }
+}
+
+/// "Insert stopped after 8 turns: mark word 8,589,934,592; another's look answers 0 in 6."
+fn see_trials(case: &Case, outcome: &Outcome, number: u8, met: &mut Vec<String>) {
+    let told = &outcome.told;
+    let (Some((_, first, _)), Some((_, _, last)), 0) = (told.first(), told.last(), number) else {
+        return;
+    };
+    if told.iter().any(|(worker, ..)| *worker != case.turns[0]) {
+        return;
+    }
+    let opened = case.board.iter().all(|&word| word == 0);
+    if first.kind == INSERT
+        && first.place == 1
+        && opened
+        && told.len() == 8
+        && outcome.board[0] == BEING_INSERTED
+    {
+        met.push("trial: an insert's first 8 turns leave 8589934592".into());
+    }
+    if first.kind == LOOK
+        && (first.place, first.slot) == (2, 0)
+        && told.len() == 6
+        && case.board[0] == BEING_INSERTED
+        && last.ended == Some(0)
+    {
+        met.push("trial: beside it a look of 6 turns ends with 0".into());
+    }
+}

@@ -1,0 +1,268 @@
+//! The desk: floor, board and list, and every call with its refusals in their order.
+
+use crate::call::Call;
+use crate::frame::Action;
+use crate::memory::{Board, Bucket, BUCKET_WORDS};
+use crate::record::{Record, INSERT};
+use crate::word::{Snapshot, MAP_INVLD};
+
+/// A number of refusal.
+pub type Refusal = u8;
+
+/// "A floor has W workers, 1 to 64, and N buckets, 1 to 256."
+pub const MOST_WORKERS: u64 = 64;
+pub const MOST_BUCKETS: u64 = 256;
+
+/// "A run of turns (worker numbers, at most 65,535)"
+pub const MOST_TURNS: usize = 65_535;
+
+/// "The floor is W, N and the last ticket."
+#[derive(Clone, Copy, Debug, PartialEq, Eq)]
+pub struct Floor {
+    pub workers: u64,
+    pub buckets: u64,
+    pub last_ticket: u32,
+}
+
+/// The lent list: its length may be any number, and then only its first records are there to be seen.
+#[derive(Clone, Debug, PartialEq, Eq)]
+pub struct List {
+    pub length: u64,
+    pub records: Vec<Record>,
+}
+
+/// What a turn reports.
+#[derive(Clone, Copy, Debug, PartialEq, Eq)]
+pub struct Report {
+    pub action: Action,
+    pub ended: Option<u64>,
+    pub change: bool,
+    pub full_round: bool,
+}
+
+/// What a run reports; the totals of a sheet are the same counts.
+#[derive(Clone, Copy, Debug, Default, PartialEq, Eq)]
+pub struct Counts {
+    pub turns: u64,
+    pub changes: u64,
+    pub lost: u64,
+    pub full_rounds: u64,
+}
+
+impl Counts {
+    pub fn add(&mut self, report: &Report) {
+        self.turns += 1;
+        self.changes += u64::from(report.change);
+        self.lost += u64::from(report.action == Action::Lost);
+        self.full_rounds += u64::from(report.full_round);
+    }
+}
+
+/// Whether a call's code lives from its start to its end, or is made anew from the record at each turn.
+#[derive(Clone, Copy, Debug, PartialEq, Eq)]
+pub enum Manner {
+    Living,
+    Remade,
+}
+
+pub struct Desk {
+    pub floor: Floor,
+    pub board: Board,
+    pub list: List,
+    manner: Manner,
+    calls: Vec<Option<Call>>,
+}
+
+impl Desk {
+    /// A desk as somebody brings it; nothing in it is running.
+    pub fn brought(floor: Floor, words: &[u64], list: List, manner: Manner) -> Desk {
+        let mut calls = Vec::new();
+        calls.resize_with(list.records.len(), || None);
+        Desk {
+            floor,
+            board: Board::of(words),
+            list,
+            manner,
+            calls,
+        }
+    }
+
+    /// A desk with room for `w` workers and `n` buckets, opened.
+    pub fn opened(w: u64, n: u64, version: u32, manner: Manner) -> Result<Desk, Refusal> {
+        let floor = Floor {
+            workers: 0,
+            buckets: 0,
+            last_ticket: 0,
+        };
+        let words = vec![0; BUCKET_WORDS * n.min(MOST_BUCKETS) as usize];
+        let list = List {
+            length: w,
+            records: vec![Record::idle(); w.min(MOST_WORKERS) as usize],
+        };
+        let mut desk = Desk::brought(floor, &words, list, manner);
+        desk.open(w, n, version)?;
+        Ok(desk)
+    }
+
+    /// "Opening gives 1 only."
+    pub fn open(&mut self, w: u64, n: u64, version: u32) -> Result<(), Refusal> {
+        self.measure(w, n, true)?;
+        let empty = Snapshot {
+            version,
+            map: [MAP_INVLD; 3],
+            byte_7: 0,
+        };
+        for at in 0..self.board.len() {
+            let is_mark_word = at % BUCKET_WORDS == 0;
+            self.board
+                .set(at, if is_mark_word { empty.snapshot() } else { 0 });
+        }
+        self.list.records.fill(Record::idle());
+        self.calls.fill_with(|| None);
+        self.floor = Floor {
+            workers: w,
+            buckets: n,
+            last_ticket: 0,
+        };
+        Ok(())
+    }
+
+    /// "start 1, 2, 3, 4, 5"
+    pub fn start(&mut self, kind: u8, worker: u64, lot: u64, ticket: u32) -> Result<(), Refusal> {
+        self.measure(self.floor.workers, self.floor.buckets, true)?;
+        let at = self.sound_worker(worker)?;
+        if !self.list.records[at].is_idle() {
+            return Err(4);
+        }
+        if kind == INSERT && ticket <= self.floor.last_ticket {
+            return Err(5);
+        }
+        let ticket = if kind == INSERT { ticket } else { 0 };
+        let call = Call::start(kind, lot, ticket, self.bucket_of(lot));
+        self.list.records[at] = call.record();
+        self.keep(at, Some(call));
+        if kind == INSERT {
+            self.floor.last_ticket = ticket;
+        }
+        Ok(())
+    }
+
+    /// "turn 1, 2, 3, 6, 7"
+    pub fn turn(&mut self, worker: u64) -> Result<Report, Refusal> {
+        self.measure(self.floor.workers, self.floor.buckets, true)?;
+        let at = self.sound_worker(worker)?;
+        let record = self.list.records[at];
+        if record.is_idle() {
+            return Err(6);
+        }
+        let bucket = self.bucket_of(record.key);
+        if bucket.is_broken() {
+            return Err(7);
+        }
+        let mut call = match self.calls[at].take() {
+            Some(call) => call,
+            None => Call::resume(&record, bucket),
+        };
+        let (done, ended) = call.turn();
+        self.list.records[at] = match ended {
+            Some(_) => Record::idle(),
+            None => call.record(),
+        };
+        self.keep(at, ended.is_none().then_some(call));
+        Ok(Report {
+            action: done.action.expect("a turn does one memory action"),
+            ended,
+            change: done.change,
+            full_round: done.full_round,
+        })
+    }
+
+    /// "run 1, 9, then each turn"; `told` hears of each turn done, with the record before it.
+    pub fn run(
+        &mut self,
+        turns: &[u8],
+        told: &mut dyn FnMut(u8, &Record, &Report),
+    ) -> (Refusal, Counts) {
+        let mut counts = Counts::default();
+        if let Err(refusal) = self.measure(self.floor.workers, self.floor.buckets, true) {
+            return (refusal, counts);
+        }
+        if turns.len() > MOST_TURNS {
+            return (9, counts);
+        }
+        for &worker in turns {
+            let before = self.list.records.get(worker as usize).copied();
+            match self.turn(u64::from(worker)) {
+                Err(refusal) => return (refusal, counts),
+                Ok(report) => {
+                    counts.add(&report);
+                    told(worker, &before.expect("a worker of the list"), &report);
+                }
+            }
+        }
+        (0, counts)
+    }
+
+    /// "show 1, 7": where the lot's bucket starts on the board, and its words.
+    pub fn show(&self, lot: u64) -> Result<(usize, Vec<u64>), Refusal> {
+        self.measure(self.floor.workers, self.floor.buckets, false)?;
+        if self.bucket_of(lot).is_broken() {
+            return Err(7);
+        }
+        let start = BUCKET_WORDS * (lot % self.floor.buckets) as usize;
+        Ok((
+            start,
+            self.board.words()[start..start + BUCKET_WORDS].to_vec(),
+        ))
+    }
+
+    /// "count 1, 7": "the number of slots, over all buckets, whose mark isn't 0".
+    pub fn count(&self) -> Result<u64, Refusal> {
+        self.measure(self.floor.workers, self.floor.buckets, false)?;
+        let buckets = || (0..self.floor.buckets as usize).map(|number| self.board.bucket(number));
+        if buckets().any(|bucket| bucket.is_broken()) {
+            return Err(7);
+        }
+        let lots = buckets()
+            .flat_map(|bucket| Snapshot::of(bucket.snapshot()).map)
+            .filter(|&mark| mark != MAP_INVLD)
+            .count();
+        Ok(lots as u64)
+    }
+
+    /// 1: "W or N outside its range, board not 8N words, or list not W records where the call takes one".
+    fn measure(&self, w: u64, n: u64, takes_list: bool) -> Result<(), Refusal> {
+        let sized = (1..=MOST_WORKERS).contains(&w)
+            && (1..=MOST_BUCKETS).contains(&n)
+            && self.board.len() as u64 == BUCKET_WORDS as u64 * n;
+        if sized && (!takes_list || self.list.length == w) {
+            Ok(())
+        } else {
+            Err(1)
+        }
+    }
+
+    /// 2 and 3; where the worker's record stands in the list.
+    fn sound_worker(&self, worker: u64) -> Result<usize, Refusal> {
+        if worker >= self.floor.workers {
+            return Err(2);
+        }
+        let at = worker as usize;
+        if self.list.records[at].is_broken() {
+            return Err(3);
+        }
+        Ok(at)
+    }
+
+    /// "A lot ... belongs to bucket lot mod N."
+    fn bucket_of(&self, lot: u64) -> Bucket {
+        self.board.bucket((lot % self.floor.buckets) as usize)
+    }
+
+    fn keep(&mut self, at: usize, call: Option<Call>) {
+        self.calls[at] = match self.manner {
+            Manner::Living => call,
+            Manner::Remade => None,
+        };
+    }
+}

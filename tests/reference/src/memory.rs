@@ -1,0 +1,97 @@
+//! The lent board, and a bucket as the report's `bucket_t` has it.
+
+use crate::word::{snap_set_map, Snapshot};
+use std::cell::Cell;
+use std::rc::Rc;
+
+/// Words of a bucket: mark word, keys 0..2, values 0..2, the spare word.
+pub const BUCKET_WORDS: usize = 8;
+
+const KEYS: usize = 1;
+const VALUES: usize = 4;
+const SPARE: usize = 7;
+
+/// The board that all calls share; any number of words.
+#[derive(Clone)]
+pub struct Board(Rc<[Cell<u64>]>);
+
+impl Board {
+    pub fn of(words: &[u64]) -> Board {
+        Board(words.iter().map(|&word| Cell::new(word)).collect())
+    }
+
+    pub fn words(&self) -> Vec<u64> {
+        self.0.iter().map(Cell::get).collect()
+    }
+
+    pub fn len(&self) -> usize {
+        self.0.len()
+    }
+
+    pub fn is_empty(&self) -> bool {
+        self.0.is_empty()
+    }
+
+    pub fn set(&self, at: usize, word: u64) {
+        self.0[at].set(word);
+    }
+
+    /// "Bucket b is words 8b to 8b+7"
+    pub fn bucket(&self, number: usize) -> Bucket {
+        Bucket {
+            board: self.clone(),
+            start: number * BUCKET_WORDS,
+        }
+    }
+}
+
+/// `bucket_t`: where a call's memory actions go.
+#[derive(Clone)]
+pub struct Bucket {
+    board: Board,
+    start: usize,
+}
+
+impl Bucket {
+    fn cell(&self, at: usize) -> &Cell<u64> {
+        &self.board.0[self.start + at]
+    }
+
+    pub fn snapshot(&self) -> u64 {
+        self.cell(0).get()
+    }
+
+    pub fn set_snapshot(&self, word: u64) {
+        self.cell(0).set(word);
+    }
+
+    pub fn map(&self, index: u8) -> u8 {
+        Snapshot::of(self.snapshot()).map[index as usize]
+    }
+
+    /// A store of one byte of the mark word.
+    pub fn set_map(&self, index: u8, mark: u8) {
+        self.set_snapshot(snap_set_map(self.snapshot(), index, mark));
+    }
+
+    pub fn key(&self, index: u8) -> u64 {
+        self.cell(KEYS + index as usize).get()
+    }
+
+    pub fn set_key(&self, index: u8, key: u64) {
+        self.cell(KEYS + index as usize).set(key);
+    }
+
+    pub fn val(&self, index: u8) -> u64 {
+        self.cell(VALUES + index as usize).get()
+    }
+
+    pub fn set_val(&self, index: u8, val: u64) {
+        self.cell(VALUES + index as usize).set(val);
+    }
+
+    /// "A bucket is broken if a mark is over 2, byte 7 isn't 0, or the spare word isn't 0."
+    pub fn is_broken(&self) -> bool {
+        !Snapshot::of(self.snapshot()).is_sound() || self.cell(SPARE).get() != 0
+    }
+}

@@ -1,0 +1,188 @@
+//! What a case comes to, and its line.
+
+use crate::case::{self, fields, groups, Case};
+use crate::desk::{Counts, Desk, Floor, Manner, Refusal, Report};
+use crate::frame::Action;
+use crate::record::Record;
+use std::fmt::Write;
+
+#[derive(Clone, Debug, PartialEq, Eq)]
+pub enum Answer {
+    /// An opening or a start.
+    Alone(Result<(), Refusal>),
+    Turn(Result<Report, Refusal>),
+    Run(Refusal, Counts),
+    Show(Result<(usize, Vec<u64>), Refusal>),
+    Count(Result<u64, Refusal>),
+}
+
+impl Answer {
+    /// The number of refusal, or 0.
+    pub fn number(&self) -> Refusal {
+        match self {
+            Answer::Alone(Err(number))
+            | Answer::Turn(Err(number))
+            | Answer::Run(number, _)
+            | Answer::Show(Err(number))
+            | Answer::Count(Err(number)) => *number,
+            _ => 0,
+        }
+    }
+}
+
+/// A turn of a run that was done: the worker, its record before, what it reported.
+pub type Told = (u8, Record, Report);
+
+#[derive(Clone, Debug, PartialEq, Eq)]
+pub struct Outcome {
+    pub answer: Answer,
+    pub floor: Floor,
+    pub board: Vec<u64>,
+    pub records: Vec<Record>,
+    /// The turns of a run one by one; no part of the line.
+    pub told: Vec<Told>,
+}
+
+/// Does the case's call on what the case brings.
+pub fn outcome(case: &Case) -> Outcome {
+    let mut desk = Desk::brought(case.floor, &case.board, case.list.clone(), Manner::Remade);
+    let mut told = Vec::new();
+    let answer = call(case, &mut desk, &mut told);
+    Outcome {
+        answer,
+        floor: desk.floor,
+        board: desk.board.words(),
+        records: desk.list.records,
+        told,
+    }
+}
+
+fn call(case: &Case, desk: &mut Desk, told: &mut Vec<Told>) -> Answer {
+    let &Case {
+        worker,
+        lot,
+        ticket,
+        ..
+    } = case;
+    match case.call {
+        case::OPEN => Answer::Alone(desk.open(worker, lot, ticket)),
+        case::LOOK | case::INSERT | case::REMOVE => {
+            Answer::Alone(desk.start(case.call, worker, lot, ticket))
+        }
+        case::TURN => Answer::Turn(desk.turn(worker)),
+        case::RUN => {
+            let (number, counts) = desk.run(&case.turns, &mut |worker, record, report| {
+                told.push((worker, *record, *report));
+            });
+            Answer::Run(number, counts)
+        }
+        case::SHOW => Answer::Show(desk.show(lot)),
+        _ => Answer::Count(desk.count()),
+    }
+}
+
+/// The line of a case, with its LF.
+pub fn line(case: &Case, outcome: &Outcome) -> String {
+    let mut line = String::from(case::NAMES[case.call as usize]);
+    push_answer(&mut line, &outcome.answer);
+    let Floor {
+        workers,
+        buckets,
+        last_ticket,
+    } = outcome.floor;
+    push(&mut line, format_args!("|"));
+    push_numbers(&mut line, &[workers, buckets, last_ticket.into()]);
+    push(&mut line, format_args!("|"));
+    push_words(&mut line, &outcome.board);
+    push(&mut line, format_args!("|"));
+    for (record, count) in groups(&outcome.records, usize::MAX) {
+        let [kind, place, key, ticket, slot, word, held, seen] = fields(&record);
+        push(
+            &mut line,
+            format_args!(
+                "{kind:x}.{place:x}.{key:x}.{ticket:x}.{slot:x}.{word:x}.{held:x}.{seen:x}"
+            ),
+        );
+        push_count(&mut line, count);
+    }
+    line.push('\n');
+    line
+}
+
+fn push_answer(line: &mut String, answer: &Answer) {
+    let number = u64::from(answer.number());
+    match answer {
+        Answer::Alone(_) => push_numbers(line, &[number]),
+        Answer::Turn(turn) => {
+            let [action, ended, answer, full] = turn.map_or([0; 4], |report| turn_items(&report));
+            push_numbers(line, &[number, action, ended, answer, full]);
+        }
+        Answer::Run(_, counts) => {
+            let Counts {
+                turns,
+                changes,
+                lost,
+                full_rounds,
+            } = *counts;
+            push_numbers(line, &[number, turns, changes, lost, full_rounds]);
+        }
+        Answer::Show(show) => {
+            let (start, part) = show.clone().unwrap_or_default();
+            push_numbers(line, &[number, start as u64]);
+            push(line, format_args!("|"));
+            push_words(line, &part);
+        }
+        Answer::Count(count) => push_numbers(line, &[number, count.unwrap_or(0)]),
+    }
+}
+
+/// "the action (1 read, 2 store, 3 won, 4 lost ..); 1 if the call ended, else 0; its answer ..; 1 for a full round, else 0"
+fn turn_items(report: &Report) -> [u64; 4] {
+    let action = match report.action {
+        Action::Read => 1,
+        Action::Store => 2,
+        Action::Won => 3,
+        Action::Lost => 4,
+    };
+    [
+        action,
+        report.ended.is_some().into(),
+        report.ended.unwrap_or(0),
+        report.full_round.into(),
+    ]
+}
+
+/// One item, with the space that precedes every item and every bar.
+fn push(line: &mut String, item: std::fmt::Arguments) {
+    write!(line, " {item}").expect("a string takes any text");
+}
+
+fn push_numbers(line: &mut String, numbers: &[u64]) {
+    for number in numbers {
+        push(line, format_args!("{number:x}"));
+    }
+}
+
+fn push_words(line: &mut String, words: &[u64]) {
+    for (word, count) in groups(words, usize::MAX) {
+        push(line, format_args!("{word:x}"));
+        push_count(line, count);
+    }
+}
+
+fn push_count(line: &mut String, count: usize) {
+    if count > 1 {
+        write!(line, "*{count:x}").expect("a string takes any text");
+    }
+}
+
+/// The lines that a stream of cases must come to.
+pub fn lines(stream: &[u8]) -> String {
+    case::pieces(stream).map(line_of).collect()
+}
+
+/// The line of one piece of a stream, that is of a case with its length.
+pub fn line_of(piece: &[u8]) -> String {
+    let case = Case::read(&piece[2..]);
+    line(&case, &outcome(&case))
+}

@@ -1,0 +1,168 @@
+//! Cases: written and read back, the lines of the format's own examples, and the stored ones as a whole.
+
+use reference::case::{pieces, with_length, Case};
+use reference::desk::{Floor, List};
+use reference::outcome::{line, lines, outcome};
+use reference::record::{Record, INSERT};
+use reference::{cases, store};
+
+fn read_back(case: &Case) -> Case {
+    Case::read(&case.write())
+}
+
+#[test]
+fn a_written_case_reads_back() {
+    for piece in cases::stored() {
+        let case = Case::read(&piece[2..]);
+        assert_eq!(read_back(&case), case);
+    }
+}
+
+/// Numbers at the ends of each length of the format.
+#[test]
+fn numbers_read_back() {
+    for shift in 0..64 {
+        for number in [(1 << shift) - 1, 1 << shift, (1 << shift) | 247, u64::MAX] {
+            let mut case = Case::read(&[]);
+            case.worker = number;
+            case.floor.workers = number;
+            case.board = vec![number, number, 0];
+            assert_eq!(read_back(&case), case);
+        }
+    }
+}
+
+#[test]
+fn missing_bytes_are_0() {
+    let empty = Case {
+        call: 0,
+        floor: Floor {
+            workers: 0,
+            buckets: 0,
+            last_ticket: 0,
+        },
+        worker: 0,
+        lot: 0,
+        ticket: 0,
+        board: vec![],
+        list: List {
+            length: 0,
+            records: vec![],
+        },
+        turns: vec![],
+    };
+    assert_eq!(Case::read(&[]), empty);
+    assert_eq!(Case::read(&[8]), empty);
+    let words = Case::read(&[0, 0, 0, 0, 0, 0, 0, 3, 0, 5]);
+    assert_eq!(words.board, vec![5, 0, 0]);
+}
+
+/// Sizes past the format's bounds, and numbers past a field's.
+#[test]
+fn bounds_of_the_format() {
+    let case = Case::read(&[0, 0, 0, 252, 1, 0, 0, 0, 9, 0, 0, 0, 249, 255, 255, 255, 7]);
+    assert_eq!(case.floor.last_ticket, 9);
+    assert_eq!(case.board.len(), 2_064);
+    assert_eq!(case.board[..257], [vec![7; 256], vec![0]].concat());
+    let mut body = vec![0; 8];
+    body.extend([249, 1, 0, 255, 249, 1, 2]);
+    let case = Case::read(&body);
+    assert_eq!(case.list.length, 256);
+    assert_eq!(case.list.records.len(), 64);
+    assert_eq!(case.list.records[63].kind, 2);
+    let mut body = vec![0; 9];
+    body.extend([1, 0, 2, 3, 255, 255, 4, 255, 255, 5, 1]);
+    let turns = Case::read(&body).turns;
+    assert_eq!(turns.len(), 65_540);
+    assert_eq!((turns[1], turns[2], turns[65_537]), (1, 3, 4));
+    body.truncate(14);
+    assert_eq!(Case::read(&body).turns.len(), 2 + 0xff00);
+}
+
+#[test]
+fn streams() {
+    let stream = [with_length(&[4, 1]), vec![0, 0], vec![0, 9, 6, 1], vec![]].concat();
+    let bodies: Vec<&[u8]> = pieces(&stream).map(|piece| &piece[2..]).collect();
+    assert_eq!(bodies, [&[4, 1][..], &[], &[6, 1]]);
+    assert_eq!(pieces(&[0]).count(), 0);
+    assert_eq!(lines(&[0, 0, 0]), "open 1 | 0 0 0 | |\n");
+}
+
+fn opened(call: u8, w: u64) -> Case {
+    let mut case = Case::read(&[call]);
+    case.floor.workers = w;
+    case.floor.buckets = 1;
+    case.board = vec![0; 8];
+    case.list = List {
+        length: w,
+        records: vec![Record::idle(); w as usize],
+    };
+    case
+}
+
+fn line_of(case: &Case) -> String {
+    line(case, &outcome(case))
+}
+
+#[test]
+fn lines_of_the_format() {
+    let mut insert = opened(2, 2);
+    (insert.lot, insert.ticket) = (7, 1);
+    assert_eq!(
+        line_of(&insert),
+        "insert 0 | 2 1 1 | 0*8 | 2.1.7.1.0.0.3.0 0.0.0.0.0.0.3.0\n"
+    );
+    let mut turn = opened(4, 1);
+    turn.floor.last_ticket = 1;
+    turn.board = vec![8_589_934_592, 7, 0, 0, 1, 0, 0, 0];
+    turn.list.records[0] = Record {
+        kind: INSERT,
+        place: 9,
+        key: 7,
+        ticket: 1,
+        slot: 0,
+        word: 8_589_934_592,
+        held: 0,
+        seen: 0,
+    };
+    assert_eq!(
+        line_of(&turn),
+        "turn 0 3 1 1 0 | 1 1 1 | 100000001 7 0*2 1 0*3 | 0.0.0.0.0.0.3.0\n"
+    );
+    assert_eq!(
+        line_of(&opened(6, 1)),
+        "show 0 0 | 0*8 | 1 1 0 | 0*8 | 0.0.0.0.0.0.3.0\n"
+    );
+}
+
+#[test]
+fn a_refused_call_changes_nothing() {
+    for piece in cases::stored() {
+        let case = Case::read(&piece[2..]);
+        let came = outcome(&case);
+        if came.answer.number() != 0 && came.told.is_empty() {
+            assert_eq!(came.floor, case.floor);
+            assert_eq!(came.board, case.board);
+            assert_eq!(came.records, case.list.records);
+        }
+    }
+}
+
+#[test]
+fn the_stored_cases_meet_every_point() {
+    let stored = store::make();
+    assert_eq!(stored.coverage.unmet(), Vec::<String>::new());
+    assert_eq!(lines(&stored.stream), stored.lines);
+    assert!(stored.lines.lines().count() >= 5_000);
+    assert!(stored.stream.len() + stored.lines.len() < 1 << 20);
+}
+
+#[test]
+fn fresh_cases_are_as_many_as_asked() {
+    for count in [0, 1, 2, 7_000] {
+        let fresh = cases::fresh(5, count);
+        assert_eq!(fresh.len(), count);
+        assert_eq!(pieces(&fresh.concat()).count(), count);
+    }
+    assert_ne!(cases::fresh(5, 100), cases::fresh(6, 100));
+}
