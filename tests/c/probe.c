@@ -1,0 +1,220 @@
+/* The probe's cases once more, from C, over the lent list of records: reads a stream of cases and writes for each the line that the
+   proved program writes, or says where the library wrote past what it was lent. tests/reference/README.md has the form of both. */
+#include "desk.h"
+
+int printf(const char *, ...);
+int fflush(void *);
+long read(int, void *, size_t);
+
+enum { LONGEST = 65535, MOST_WORDS = 2064, MOST_RECORDS = 64, MOST_TURNS = 65540, SPARE = 8 };
+
+static uint8_t body[LONGEST], turns[MOST_TURNS];
+static size_t length, next, count;
+static uint64_t board[MOST_WORDS + SPARE];
+static desk_worker records[MOST_RECORDS + 2 + SPARE];
+static size_t words, listed, shown;
+static desk_floor floor;
+
+static size_t read_all(uint8_t *to, size_t most) {
+    size_t done = 0;
+    long got;
+    while (done < most && (got = read(0, to + done, most - done)) > 0) {
+        done += (size_t)got;
+    }
+    return done;
+}
+
+/* ---- a case out of its bytes; those that it does not have read as 0 */
+
+static uint64_t byte(void) {
+    return next < length ? body[next++] : 0;
+}
+
+static uint64_t number(void) {
+    uint64_t n = byte();
+    if (n >= 248) {
+        uint64_t left = n - 247;
+        for (n = 0; left > 0; left--) {
+            n = n << 8 | byte();
+        }
+    }
+    return n;
+}
+
+static size_t least(uint64_t a, size_t b) {
+    return a < b ? a : b;
+}
+
+static void read_board(void) {
+    uint64_t more = 0, word = 0;
+    words = least(number(), MOST_WORDS);
+    for (size_t i = 0; i < words; i++, more--) {
+        if (more == 0) {
+            more = byte() + 1;
+            word = number();
+        }
+        board[i] = word;
+    }
+}
+
+static desk_worker read_record(void) {
+    desk_worker w;
+    w.kind = (uint8_t)number();
+    w.place = (uint8_t)number();
+    w.key = number();
+    w.ticket = (uint32_t)number();
+    w.slot = (uint8_t)number();
+    w.word = number();
+    w.held = (uint8_t)number();
+    w.seen = number();
+    return w;
+}
+
+static void read_records(void) {
+    uint64_t more = 0;
+    desk_worker w = {0};
+    uint64_t n = number();
+    shown = least(n, MOST_RECORDS);
+    /* a list of more than 64 records is as long here as there is room for, and refused like any other */
+    listed = least(n, MOST_RECORDS + 2);
+    for (size_t i = 0; i < shown; i++, more--) {
+        if (more == 0) {
+            more = byte() + 1;
+            w = read_record();
+        }
+        records[i] = w;
+    }
+}
+
+static void read_turns(void) {
+    count = 0;
+    while (next < length) {
+        uint8_t worker = (uint8_t)byte();
+        uint64_t times = byte() << 8;
+        for (times |= byte(); times > 0 && count < MOST_TURNS; times--) {
+            turns[count++] = worker;
+        }
+    }
+}
+
+/* ---- what stands past the end of what is lent, and must stay */
+
+static const uint64_t pattern = 0xa5a5a5a5a5a5a5a5;
+
+static void fence(void) {
+    for (size_t i = 0; i < SPARE; i++) {
+        board[words + i] = pattern;
+        records[listed + i] = (desk_worker){.key = pattern, .word = pattern, .seen = pattern};
+    }
+}
+
+static void check_fence(void) {
+    for (size_t i = 0; i < SPARE; i++) {
+        const desk_worker *w = &records[listed + i];
+        if (board[words + i] != pattern || w->key != pattern || w->word != pattern || w->seen != pattern || w->kind || w->place ||
+            w->ticket || w->slot || w->held) {
+            printf(" written past the end");
+        }
+    }
+}
+
+/* ---- the line */
+
+static void number_out(const char *before, uint64_t n) {
+    printf("%s%lx", before, n);
+}
+
+static void times_out(size_t times) {
+    if (times > 1) {
+        number_out("*", times);
+    }
+}
+
+static void words_out(const uint64_t *part, size_t many) {
+    printf(" |");
+    for (size_t i = 0, end; i < many; i = end) {
+        for (end = i + 1; end < many && part[end] == part[i]; end++) {
+        }
+        number_out(" ", part[i]);
+        times_out(end - i);
+    }
+}
+
+static bool alike(const desk_worker *a, const desk_worker *b) {
+    return a->kind == b->kind && a->place == b->place && a->key == b->key && a->ticket == b->ticket && a->slot == b->slot &&
+        a->word == b->word && a->held == b->held && a->seen == b->seen;
+}
+
+static void records_out(void) {
+    printf(" |");
+    for (size_t i = 0, end; i < shown; i = end) {
+        const desk_worker *w = &records[i];
+        for (end = i + 1; end < shown && alike(&records[end], w); end++) {
+        }
+        printf(" %x.%x.%lx.%x.%x.%lx.%x.%lx", w->kind, w->place, w->key, w->ticket, w->slot, w->word, w->held, w->seen);
+        times_out(end - i);
+    }
+}
+
+/* ---- the call */
+
+static void outcome(const char *name, desk_outcome o) {
+    printf("%s %x", name, o.refusal);
+    floor = o.floor;
+}
+
+static void turn_outcome(desk_turn_outcome t) {
+    printf("turn %x %x %x %lx %x", t.refusal, t.action, t.ended, t.answer, t.full);
+}
+
+static void run_outcome(desk_run_outcome r) {
+    printf("run %x %x %x %x %x", r.stop, r.totals.turns, r.totals.changes, r.totals.lost, r.totals.full);
+}
+
+static void show_outcome(uint64_t lot) {
+    desk_part part = desk_show(board, words, floor, lot);
+    printf("show %x %lx", desk_show_refusal(board, words, floor, lot), part.start);
+    words_out(board + part.start, part.words);
+}
+
+static void count_outcome(desk_count_outcome c) {
+    printf("count %x %lx", c.refusal, c.lots);
+}
+
+static void call(unsigned which, uint64_t worker, uint64_t lot, uint32_t ticket) {
+    switch (which) {
+    case 0: outcome("open", desk_open_floor(board, words, records, listed, floor, (desk_plan){worker, lot, ticket})); break;
+    case 1: outcome("look", desk_start_look(board, words, records, listed, floor, worker, lot)); break;
+    case 2: outcome("insert", desk_start_insert(board, words, records, listed, floor, worker, (desk_bid){lot, ticket})); break;
+    case 3: outcome("remove", desk_start_remove(board, words, records, listed, floor, worker, lot)); break;
+    case 4: turn_outcome(desk_turn(board, words, records, listed, floor, worker)); break;
+    case 5: run_outcome(desk_run(board, words, records, listed, floor, turns, count)); break;
+    case 6: show_outcome(lot); break;
+    default: count_outcome(desk_count(board, words, floor)); break;
+    }
+}
+
+int main(void) {
+    uint8_t head[2];
+    while (read_all(head, 2) == 2) {
+        length = read_all(body, (size_t)head[0] << 8 | head[1]);
+        next = 0;
+        unsigned which = (unsigned)byte() % 8;
+        floor.workers = number();
+        floor.buckets = number();
+        floor.last = (uint32_t)number();
+        uint64_t worker = number(), lot = number();
+        uint32_t ticket = (uint32_t)number();
+        read_board();
+        read_records();
+        read_turns();
+        fence();
+        call(which, worker, lot, ticket);
+        printf(" | %lx %lx %x", floor.workers, floor.buckets, floor.last);
+        words_out(board, words);
+        records_out();
+        check_fence();
+        printf("\n");
+    }
+    return fflush(0);
+}
