@@ -4,7 +4,6 @@ use Prim.Native.Nat.{ℕ, zero, suc}
 use mathlib.Core.Bool.{Bool, true, false, cond}
 use mathlib.Core.Path.{_≡_, refl, ap}
 use mathlib.Core.List.{List, [], _∷_}
-use lib.Dec.{eqb}
 use lib.ListN.{length, getD, set, length-set}
 use lib.Seq.{getD-set-other}
 use Rattle.mark.proofs.Choices.{by-cases, not-both}
@@ -12,7 +11,7 @@ use Rattle.turn.specs.declared.Worker.{Worker}
 use Rattle.turn.specs.declared.Action.{Action}
 use Rattle.turn.specs.declared.Action.the-variants.{Read, Store, Won, Lost}
 use Rattle.turn.specs.Bucket.{cell, markCell}
-use Rattle.turn.specs.Places.{Act, read, store, swap, Step, leaves, loses, does, rows, stays, turn}
+use Rattle.turn.specs.Places.{Act, read, store, swap, Step, leaves, wins, loses, does, rows, stays, turn}
 
 -- ---- by the three kinds of action, for any bucket and any worker
 
@@ -25,7 +24,7 @@ module _ (b : List ℕ) (w : Worker) where
   does-long (read at next) = refl
   does-long (store at what next) = length-set b (at w) _
   does-long (swap expected new won) =
-      by-swap (λ (s : Step). length (s .bucket) ≡ length b) (eqb (cell b markCell) (expected w)) _ _ (length-set b markCell (new w)) refl
+      by-swap (λ (s : Step). length (s .bucket) ≡ length b) (wins b (expected w)) _ _ (length-set b markCell (new w)) refl
 
   -- a turn keeps the bucket's length
   pub turn-long : length (turn b w .bucket) ≡ length b
@@ -49,7 +48,7 @@ module _ (b : List ℕ) (w : Worker) (j : ℕ) where
   does-one-cell (read at next) other = refl
   does-one-cell (store at what next) other = getD-set-other b (at w) j _ 0 other
   does-one-cell (swap expected new won) other =
-      by-swap (λ (s : Step). cell (s .bucket) j ≡ cell b j) (eqb (cell b markCell) (expected w)) _ _
+      by-swap (λ (s : Step). cell (s .bucket) j ≡ cell b j) (wins b (expected w)) _ _
       (getD-set-other b markCell j (new w) 0 other) refl
 
   -- a turn leaves every cell but the touched one as it was
@@ -64,7 +63,7 @@ module _ (b c : List ℕ) (w : Worker) where
   does-one-reading : (a : Act) → cell b (cellOf a w) ≡ cell c (cellOf a w) → does a b w .stepped ≡ does a c w .stepped
   does-one-reading (read at next) same = ap (next w) same
   does-one-reading (store at what next) same = refl
-  does-one-reading (swap expected new won) same = rw same (same-outcome (eqb (cell c markCell) (expected w)))
+  does-one-reading (swap expected new won) same = rw same (same-outcome (wins c (expected w)))
     where
       same-outcome :
           (t : Bool)
@@ -113,7 +112,7 @@ module _ (b : List ℕ) (w : Worker) where
   does-quiet (read at next) loud = λ quiet. refl
   does-quiet (store at what next) loud = not-both _ (loud w)
   does-quiet (swap expected new won) loud =
-      by-swap (λ (s : Step). isQuiet (s .stepped .report .action) ≡ true → s .bucket ≡ b) (eqb (cell b markCell) (expected w)) _ _
+      by-swap (λ (s : Step). isQuiet (s .stepped .report .action) ≡ true → s .bucket ≡ b) (wins b (expected w)) _ _
       (not-both _ (loud w)) (λ quiet. refl)
 
   -- a turn that reports a read or a lost swap leaves the bucket as it was

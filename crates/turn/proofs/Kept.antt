@@ -1,7 +1,7 @@
 -- An accepted turn leaves a bucket and a record that are not broken, and a start leaves such a record. Assumes nothing.
 use Prim.Native.Nat.{ℕ, _≤_}
 use mathlib.Core.Bool.{Bool, true, false, and-eq-true-iff}
-use mathlib.Core.Path.{_≡_, refl, _∙_}
+use mathlib.Core.Path.{_≡_, refl, ap, _∙_}
 use mathlib.Core.List.{List}
 use mathlib.Core.Logic.{_⊎_, inl, inr}
 use native.Mathlib.Omega.{arith}
@@ -19,8 +19,8 @@ use Rattle.turn.specs.Worker.{idle, lookFor, insertOf, removeOf, isIdle,
 use Rattle.turn.specs.Bucket.{markCell, spareCell}
 use Rattle.turn.specs.Places.{Step, turn}
 use Rattle.turn.proofs.Sound.{Sound, Whole, Accepted, sound-not-broken}
-use Rattle.turn.proofs.Works.{Works, looking, inserting, filling, beginning, works-stands, works-held}
-use Rattle.turn.proofs.Lands.{Lands, reads, goes, answers, claims, commits, frees, closes}
+use Rattle.turn.proofs.Works.{Works, looking, inserting, filling, beginning, works-stands, works-held, works-within}
+use Rattle.turn.proofs.Lands.{Lands, reads, goes, loses, answers, claims, commits, frees, closes}
 use Rattle.turn.proofs.Landing.{turn-lands}
 
 -- ---- idle records
@@ -52,6 +52,14 @@ idle-is w is =
     let zero : (n : ℕ) → eqb n 0 ≡ true → n ≡ 0 = λ n is. eqb-true n 0 is in
     fields-idle _ _ _ _ _ _ _ _ (zero _ (a .0)) (zero _ (b .0)) (zero _ (c .0)) (zero _ (d .0)) (zero _ (e .0)) (zero _ (f .0))
     (eqb-true _ 3 (g .0)) (zero _ (g .1))
+
+-- a record at a place is busy
+pub busy : (w : Worker) → (w .place ≡ 0 → ⊥) → isIdle w ≡ false
+busy w some = by (isIdle w) (λ is. some (ap (λ (x : Worker). x .place) (idle-is w is)))
+  where
+    by : (t : Bool) → (t ≡ true → ⊥) → t ≡ false
+    by true isnot = absurd (isnot refl)
+    by false isnot = refl
 
 -- the idle record passes it
 pub is-idle : isIdle idle ≡ true
@@ -99,9 +107,9 @@ remove-kept lot = sound-not-broken _ (sound-of (removeOf lot) (beginning refl re
 
 -- ---- an accepted turn
 
--- "When a call ends the record becomes idle."
+-- "When a call ends the record becomes idle.", and while it goes on the worker is busy
 abbrev pub Idles : Progress → Worker → Type 0
-Idles GoesOn v = Unit {0}
+Idles GoesOn v = isIdle v ≡ false
 Idles (Ended answer) v = v ≡ idle
 
 module _ (b : List ℕ) (w : Worker) (ok : Accepted b w) where
@@ -123,9 +131,10 @@ module _ (b : List ℕ) (w : Worker) (ok : Accepted b w) where
 
   lands-whole : {s : Step} → Lands b w s → Whole (s .bucket)
   lands-whole (reads p place other from fits aims) = ok .whole
-  lands-whole (goes a full p s v c none same from fits slot aims) =
+  lands-whole (goes a full p s v c swap none same from fits slot aims) =
       let old = ok .whole in
       record { eight = same .long ∙ old .eight; formed = rw (same .mark) (old .formed); spare = same .spare ∙ old .spare }
+  lands-whole (loses swapper missed fits) = ok .whole
   lands-whole (answers answer held) = ok .whole
   lands-whole (claims kind place held is) = set-whole _ (marked (w .slot) 2 (omega arith) (omega arith))
   lands-whole (commits kind place held is) =
@@ -138,15 +147,16 @@ module _ (b : List ℕ) (w : Worker) (ok : Accepted b w) where
   turn-whole = lands-whole (turn-lands b w ok)
 
   lands-idles : {s : Step} → Lands b w s → Idles (s .stepped .report .progress) (s .stepped .worker)
-  lands-idles (reads p place other from fits aims) = tt
-  lands-idles (goes a full p s v c none same from fits slot aims) = tt
+  lands-idles (reads p place other from fits aims) = busy _ (omega arith)
+  lands-idles (goes a full p s v c swap none same from fits slot aims) = busy _ (omega (arith, works-within _ _ _ fits))
+  lands-idles (loses swapper missed fits) = busy _ (omega arith)
   lands-idles (answers answer held) = refl
-  lands-idles (claims kind place held is) = tt
+  lands-idles (claims kind place held is) = busy _ (omega arith)
   lands-idles (commits kind place held is) = refl
   lands-idles (frees kind place held) = refl
   lands-idles (closes kind place held is) = refl
 
-  -- so it is where a turn ends its call
+  -- the record that a turn leaves is idle just where it ends its call
   pub turn-idles : Idles (turn b w .stepped .report .progress) (turn b w .stepped .worker)
   turn-idles = lands-idles (turn-lands b w ok)
 
@@ -154,7 +164,8 @@ module _ (b : List ℕ) (w : Worker) (ok : Accepted b w) where
   unfolding wordFits
   lands-kept (reads p place other from fits aims) =
       inl (sound-of _ fits (ok .sound .ticket) (omega arith) (rw (ne-eqb (w .kind) 1 other) (ok .whole .formed)))
-  lands-kept (goes a full p s v c none same from fits slot aims) = inl (sound-of _ fits (ok .sound .ticket) slot (ok .sound .word))
+  lands-kept (goes a full p s v c swap none same from fits slot aims) = inl (sound-of _ fits (ok .sound .ticket) slot (ok .sound .word))
+  lands-kept (loses swapper missed fits) = inl (sound-of _ fits (ok .sound .ticket) (ok .sound .slot) (ok .sound .word))
   lands-kept (answers answer held) = inr refl
   lands-kept (claims kind place held is) =
       let few = ok .sound .slot in

@@ -1,7 +1,7 @@
 -- Every accepted turn has one of the outcomes of Lands, place by place. Assumes nothing.
 use Prim.Native.Nat.{ℕ, _+_, _≤_, _<_}
 use mathlib.Core.Bool.{Bool, true, false, _&&_, not, and-eq-true-iff}
-use mathlib.Core.Path.{_≡_, refl, sym, subst}
+use mathlib.Core.Path.{_≡_, refl, sym, subst, _∙_}
 use mathlib.Core.List.{List}
 use native.Mathlib.Omega.{arith}
 use lib.Dec.{eqb, ltb}
@@ -12,18 +12,18 @@ use Rattle.mark.specs.Word.{markOf, firstEmpty}
 use Rattle.mark.proofs.Choices.{by-cases}
 use Rattle.mark.proofs.FirstEmpty.{first-empty}
 use Rattle.turn.specs.declared.Worker.{Worker}
-use Rattle.turn.specs.declared.Action.{Action}
-use Rattle.turn.specs.declared.Action.the-variants.{Read, Store, Won, Lost}
+use Rattle.turn.specs.declared.Action.the-variants.{Read, Store, Won}
 use Rattle.turn.specs.declared.Stepped.{Stepped}
 use Rattle.turn.specs.Worker.{goTo, saw, claimed}
 use Rattle.turn.specs.Bucket.{cell, markCell, spareCell}
-use Rattle.turn.specs.Effects.{none, effectOf}
-use Rattle.turn.specs.Places.{leaves, goesOn, ends, loses, swapped, does, rows, stays, turn}
+use Rattle.turn.specs.Places.{leaves, goesOn, ends, swapped, does, rows, stays, turn}
+use Rattle.turn.specs.Places.{loses as misses}
 use Rattle.turn.specs.Places.{heldKey, heldValue, claim, filled, commit, close, lookFound, findSlot, lookEmpty, nextSlot, nextKey}
 use Rattle.turn.specs.Places.{after1, after2, after3, after4, after5, after11, after12}
 use Rattle.turn.proofs.Sound.{Accepted, accepted-works}
 use Rattle.turn.proofs.Works.{Works, looking, inserting, claiming, filling, beginning, removing, From, among}
-use Rattle.turn.proofs.Lands.{Aimed, elsewhere, moved, Same, Lands, reads, goes, answers, claims, commits, frees, closes}
+use Rattle.turn.proofs.Lands.{Aimed, elsewhere, moved, Same, Swapper, filler, claimer, expects}
+use Rattle.turn.proofs.Lands.{Lands, reads, goes, loses, answers, claims, commits, frees, closes}
 
 -- ---- what follows a look
 
@@ -50,16 +50,15 @@ module _ (b : List ℕ) (w : Worker) (few : w .slot ≤ 2) where
   L s = Lands b w (leaves b s)
 
   module _ (from : 2 ≤ w .place) where
-    -- the bucket is as it was and the call goes on, at place p and slot s
+    -- a read, and the call goes on, at place p and slot s
     on :
-        (a : Action) (full : Bool) (p s v : ℕ)
-        → effectOf w a ≡ none
+        (full : Bool) (p s v : ℕ)
         → Works (w .kind) p (w .held)
         → s ≤ 2
         → (Aimed w → Aimed (moved p s v w))
-        → L (goesOn a full (moved p s v w))
-    on a full p s v quiet fits slot aims =
-        goes a full p s v b quiet (record { long = refl; mark = refl; spare = refl }) from fits slot aims
+        → L (goesOn Read full (moved p s v w))
+    on full p s v fits slot aims =
+        goes Read full p s v b refl refl (record { long = refl; mark = refl; spare = refl }) from fits slot aims
 
     -- the same at a place that asks for no aim
     away :
@@ -67,7 +66,7 @@ module _ (b : List ℕ) (w : Worker) (few : w .slot ≤ 2) where
         → Works (w .kind) p (w .held)
         → (s ≤ 2) × (p ≡ 6 → ⊥) × (p < 12)
         → L (goesOn Read full (moved p s v w))
-    away full p s v fits to = on Read full p s v refl fits (to .0) (λ a. elsewhere _ (to .1, to .2))
+    away full p s v fits to = on full p s v fits (to .0) (λ a. elsewhere _ (to .1, to .2))
 
     module _ (looks : Looks (w .kind) (w .held)) where
       look : (p s v : ℕ) → (2 ≤ p) × (p ≤ 5) × (s ≤ 2) → L (goesOn Read false (moved p s v w))
@@ -78,7 +77,7 @@ module _ (b : List ℕ) (w : Worker) (few : w .slot ≤ 2) where
       finds-slot kind held =
           let e = firstEmpty (w .word) in
           by-cases L (ltb e 3) _ _
-          (λ some. on Read false 6 e (w .seen) refl (claiming kind refl held) (omega (arith, ltb-true e 3 some))
+          (λ some. on false 6 e (w .seen) (claiming kind refl held) (omega (arith, ltb-true e 3 some))
           (λ a. record { at-claim = λ is. first-empty (w .word) .empty; at-close = λ from to. absurd (omega arith) }))
           (λ full. away true 1 0 (w .seen) (inserting kind (omega arith) (omega arith) (omega arith)) (omega arith))
 
@@ -140,7 +139,7 @@ module _ (b : List ℕ) (w : Worker) (few : w .slot ≤ 2) where
       -- to a place where the slot has to be valid
       to-close : (p v : ℕ) → (12 ≤ p) × (p ≤ 13) → (Aimed w → markOf (w .word) (w .slot) ≡ 1) → L (goesOn Read false (saw p v w))
       to-close p v to valid =
-          on Read false p (w .slot) v refl (removing kind (omega arith) (to .1) held) few
+          on false p (w .slot) v (removing kind (omega arith) (to .1) held) few
           (λ a. record { at-claim = λ is. absurd (omega arith); at-close = λ from to. valid a })
 
       lands11 : (x : ℕ) → L (after11 w x)
@@ -157,15 +156,17 @@ module _ (b : List ℕ) (w : Worker) (few : w .slot ≤ 2) where
 
     -- ---- what follows a swap, a store and the first read
 
-    -- "lost: 1"
+    -- "A swap wins when the mark word equals the expected word."
     swaps :
         (expected new : ℕ) (won : Stepped)
+        → expects w ≡ expected
+        → Swapper w
         → Works (w .kind) 1 (w .held)
         → (cell b markCell ≡ expected → Lands b w (leaves (set b markCell new) won))
-        → Lands b w (swapped b expected new won (loses w))
-    swaps expected new won fits wins =
+        → Lands b w (swapped b expected new won (misses w))
+    swaps expected new won known swapper fits wins =
         by-cases (Lands b w) _ _ _ (λ is. wins (eqb-true _ expected is))
-        (λ lost. on Lost false 1 (w .slot) (w .seen) refl fits few (λ a. elsewhere _ (omega arith)))
+        (λ lost. loses swapper (λ is. eqb-false _ expected lost (sym is ∙ known)) fits)
 
   -- a store beside the mark word and the spare word
   same-beside : (j v : ℕ) → (1 ≤ j) × (j ≤ 6) → Same b (set b j v)
@@ -180,7 +181,7 @@ module _ (b : List ℕ) (w : Worker) (few : w .slot ≤ 2) where
       → (7 ≤ w .place) × (w .place < 10) × (7 ≤ p) × (p ≤ 10) × (1 ≤ j) × (j ≤ 6)
       → Lands b w (leaves (set b j v) (goesOn Store false (goTo p w)))
   stores j v p kind held to =
-      goes Store false p (w .slot) (w .seen) (set b j v) (rw (ne-eqb (w .place) 10 (omega arith))) (same-beside j v (omega arith))
+      goes Store false p (w .slot) (w .seen) (set b j v) refl (rw (ne-eqb (w .place) 10 (omega arith))) (same-beside j v (omega arith))
       (omega arith) (filling kind (to .2) (to .3) held) few (λ a. elsewhere _ (omega arith))
 
   lands1 :
@@ -221,11 +222,11 @@ module _ (b : List ℕ) (w : Worker) (few : w .slot ≤ 2) where
     claim-row : w .held ≡ 3 → At 6
     claim-row held is =
         let won = goesOn Won false (claimed (claim w) w) in
-        swaps b w few (omega arith) (w .word) (claim w) won (again (omega arith)) (claims kind is held)
+        swaps b w few (omega arith) (w .word) (claim w) won (rw is) (claimer w (omega arith)) (again (omega arith)) (claims kind is held)
 
     commit-row : w .held ≤ 2 → At 9
     commit-row held is =
-        swaps b w few (omega arith) (filled w) (commit w) (ends Won 1) (again (omega arith)) (commits kind is held)
+        swaps b w few (omega arith) (filled w) (commit w) (ends Won 1) (rw is) (filler w kind is held) (again (omega arith)) (commits kind is held)
 
     fill-rows : w .held ≤ 2 → From At 7 4
     fill-rows held =
@@ -240,7 +241,8 @@ module _ (b : List ℕ) (w : Worker) (few : w .slot ≤ 2) where
 
     close-row : At 13
     close-row is =
-        swaps b w few (omega arith) (w .word) (close w) (ends Won (w .seen)) (beginning kind refl held) (closes kind is held)
+        let fits : Works (w .kind) 1 (w .held) = beginning kind refl held in
+        swaps b w few (omega arith) (w .word) (close w) (ends Won (w .seen)) (rw is) (claimer w (omega arith)) fits (closes kind is held)
 
     remove-rows : From At 11 3
     remove-rows =

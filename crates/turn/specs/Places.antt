@@ -97,8 +97,12 @@ abbrev pub leaves : List ℕ → Stepped → Step
 leaves b s = record { bucket = b; stepped = s }
 
 -- "A swap wins when the mark word equals the expected word."
+abbrev pub wins : List ℕ → ℕ → Bool
+wins b expected = eqb (cell b markCell) expected
+
+-- a swap that is won leaves the new mark word, and one that is lost the bucket as it was
 abbrev pub swapped : List ℕ → ℕ → ℕ → Stepped → Stepped → Step
-swapped b expected new won lost = cond (eqb (cell b markCell) expected) (leaves (set b markCell new) won) (leaves b lost)
+swapped b expected new won lost = cond (wins b expected) (leaves (set b markCell new) won) (leaves b lost)
 
 -- "lost: 1"
 abbrev pub loses : Worker → Stepped
