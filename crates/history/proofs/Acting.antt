@@ -1,0 +1,113 @@
+-- A turn, done or refused, on what demand 3 goes by. Assumes nothing.
+use Prim.Native.Nat.{ℕ, _+_, _*_, _≤_}
+use mathlib.Core.List.{List}
+use mathlib.Core.Path.{_≡_, refl, ap, _∙_}
+use native.Mathlib.Omega.{arith}
+use lib.Dec.{eqb}
+use lib.ListN.{length}
+use borrow.Author.Tests.{eqb-true}
+use Rattle.mark.proofs.Choices.{by-cases, passes}
+use Rattle.turn.specs.declared.Worker.{Worker}
+use Rattle.turn.specs.declared.Turned.{Turned}
+use Rattle.turn.specs.Bucket.{cell, markCell}
+use Rattle.turn.specs.Effects.{effectOn, effectOf}
+use Rattle.turn.specs.Places.{Step, turn}
+use Rattle.turn.specs.Turn.{After, after, refusing}
+use Rattle.turn.proofs.Sound.{Accepted}
+use Rattle.turn.proofs.Cells.{turn-long}
+use Rattle.turn.proofs.Effects.{turn-moves, turn-went, turn-effect, turn-aims}
+use Rattle.turn.proofs.Kept.{turn-idles}
+use Rattle.engine.specs.Board.{bucketOf, bucketAt, withBucket}
+use Rattle.engine.specs.Refusals.{wrongSizes, turnNumber}
+use Rattle.engine.specs.Calls.{turnDone, turned, turnCall}
+use Rattle.engine.proofs.Sizes.{right-listed}
+use Rattle.engine.proofs.Keeps.{turn-accepted}
+use Rattle.engine.proofs.Cut.{bucket-within, same-bucket, other-bucket}
+use Rattle.history.specs.Trace.{Entry}
+use Rattle.history.specs.History.{State, recordOf, turnBy, turnedAs, entryOf, turnEntry}
+use Rattle.history.proofs.Counts.{commit-is, close-is, change-is}
+use Rattle.history.proofs.View.{Acts, Walk, stays, acts}
+use Rattle.history.proofs.States.{view, same-walk}
+
+-- ---- the mark words that a turn leaves
+
+module _ (board : List ℕ) (b : ℕ) (w : Worker) (ok : Accepted (bucketAt board b) w) where
+  abbrev step : Step
+  step = turn (bucketAt board b) w
+
+  within : 8 * b + 8 ≤ length board
+  within = bucket-within board b (ok .whole .eight)
+
+  eight : length (step .bucket) ≡ 8
+  eight = turn-long (bucketAt board b) w ∙ ok .whole .eight
+
+  -- of its bucket what the effect makes of it
+  mark-here :
+      cell (bucketAt (withBucket board b (step .bucket)) b) markCell
+      ≡ effectOn (effectOf w (step .stepped .report .action)) (cell (bucketAt board b) markCell)
+  mark-here = rw (same-bucket board b (step .bucket) within eight) (turn-effect (bucketAt board b) w ok)
+
+  -- of every other bucket the one that it had
+  mark-there : (c : ℕ) → (c ≡ b → ⊥) → cell (bucketAt (withBucket board b (step .bucket)) c) markCell ≡ cell (bucketAt board c) markCell
+  mark-there c other = ap (λ (l : List ℕ). cell l markCell) (other-bucket board b (step .bucket) within eight c other)
+
+-- ---- a turn of worker i
+
+module _ (s : State) (i : ℕ) where
+  abbrev w : Worker
+  w = recordOf s i
+
+  abbrev b : ℕ
+  b = bucketOf (w .key) (s .floor .buckets)
+
+  -- its number of refusal
+  abbrev number : ℕ
+  number = turnNumber (s .floor) (s .board) (length (s .records)) i w
+
+  -- what it does on the bucket, and on the board
+  abbrev does : Step
+  does = turn (bucketAt (s .board) b) w
+
+  abbrev done : After Turned
+  done = turnDone (s .floor) (s .board) w does
+
+  abbrev entry : Entry
+  entry = record { worker = i; bucket = b; place = w .place; report = does .stepped .report }
+
+  -- where it is not refused, there is a record for each worker
+  listed : number ≡ 0 → length (s .records) ≡ s .floor .workers
+  unfolding turnNumber
+  listed none = right-listed (s .floor) (s .board) _ (passes (wrongSizes (s .floor) (s .board) _) 0 _ none .0)
+
+  -- and it is done
+  done-acts : number ≡ 0 → Acts (s .floor .buckets) (view s) entry (does .stepped .worker) (view (turnedAs s i done))
+  done-acts none =
+      let known = turn-accepted (s .floor) (s .board) (length (s .records)) i w none in
+      let ok = known .1 in
+      let bucket = bucketAt (s .board) b in
+      let action = does .stepped .report .action in
+      record {
+        effect = effectOf w action;
+        commits = commit-is w action;
+        closes = close-is w action;
+        changes = change-is w action;
+        within = omega (arith, listed none, known .2);
+        records = refl;
+        last = refl;
+        bucket = refl;
+        place = refl;
+        here = mark-here (s .board) b w ok;
+        there = mark-there (s .board) b w ok;
+        moves = turn-moves bucket w ok;
+        went = turn-went bucket w ok;
+        aims = turn-aims bucket w ok;
+        idles = turn-idles bucket w ok;
+      }
+
+  -- done or refused, a turn is a walk of its entries
+  pub turn-walk : Walk (s .floor .buckets) (view s) (turnEntry s i) 0 (view (turnedAs s i (turnBy s i)))
+  unfolding turnCall turned
+  turn-walk =
+      by-cases (λ (x : After Turned). Walk (s .floor .buckets) (view s) (entryOf s i (x .handed .answer)) 0 (view (turnedAs s i x)))
+      (eqb number 0) done (after (s .board) (refusing number w))
+      (λ is. acts (done-acts (eqb-true number 0 is)) stays) (λ isnot. same-walk (s .floor .buckets) s i)

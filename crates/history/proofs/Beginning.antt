@@ -1,0 +1,87 @@
+-- An opened board is good: every worker is idle, every bucket has the opening's version and no mark. Assumes nothing.
+use Prim.Native.Nat.{ℕ, _^_, _<_}
+use mathlib.Core.List.{List, []}
+use mathlib.Core.Logic.{_⊎_, inl, inr}
+use mathlib.Core.Path.{_≡_, refl, ap, _∙_}
+use native.Mathlib.Omega.{arith}
+use lib.ListN.{length}
+use Rattle.mark.specs.Word.{version, markOf, sumMarks, countMarks}
+use Rattle.mark.proofs.Slots.{slots, mark-past}
+use Rattle.turn.specs.declared.Worker.{Worker}
+use Rattle.turn.specs.Worker.{idle}
+use Rattle.turn.specs.Bucket.{cell, markCell}
+use Rattle.turn.proofs.Lands.{elsewhere}
+use Rattle.engine.specs.Calls.{blank}
+use Rattle.history.specs.Trace.{total}
+use Rattle.history.specs.History.{State, Opening, opened}
+use Rattle.history.proofs.Sums.{sum, sum-none}
+use Rattle.history.proofs.View.{worker, inserting, left, Aware}
+use Rattle.history.proofs.Held.{Holds, Kept}
+use Rattle.history.proofs.Versions.{Tells}
+use Rattle.history.proofs.Charges.{stale}
+use Rattle.history.proofs.Good.{Good}
+use Rattle.history.proofs.States.{view}
+use Rattle.history.proofs.Opened.{opened-is, opened-listed, opened-idle, opened-bucket}
+
+-- a word that is a version alone has no mark
+no-mark : (v : ℕ) → v < 2 ^ 32 → (i : ℕ) → markOf v i ≡ 0
+unfolding markOf
+no-mark v fits = slots (λ (i : ℕ). markOf v i ≡ 0) (omega arith) (omega arith) (omega arith) (λ i past. mark-past v i past)
+
+-- and tells of no commit and no close
+empty-tells : (v b : ℕ) → v < 2 ^ 32 → Tells v b [] v
+unfolding total version countMarks sumMarks
+empty-tells v b fits = record { commits = omega arith; valid = rw (no-mark v fits 0, no-mark v fits 1, no-mark v fits 2) (omega arith) }
+
+module _ (o : Opening) where
+  -- a worker that is at no call
+  record Rests (w : Worker) : Type 0 where
+    kind : w .kind ≡ 0
+    place : w .place ≡ 0
+
+  rests : (i : ℕ) → Rests (worker (view (opened o)) i)
+  rests i = by (opened-idle o i)
+    where
+      by : (worker (view (opened o)) i ≡ idle) ⊎ (worker (view (opened o)) i ≡ blank) → Rests (worker (view (opened o)) i)
+      by (inl is) = rw is (record { kind = refl; place = refl })
+      by (inr is) = rw is (record { kind = refl; place = refl })
+
+  -- no worker has a word in mind
+  pub opened-unaware : (i : ℕ) → Aware (worker (view (opened o)) i) → ⊥
+  opened-unaware i aware = omega (arith, rests i .place, aware .from)
+
+  holds-none : (i : ℕ) → Holds (worker (view (opened o)) i) → ⊥
+  holds-none i holds = omega (arith, rests i .kind, holds .0)
+
+  kept : Kept (o .plan .buckets) (view (opened o))
+  kept =
+      record {
+        aimed = λ i. let place = rests i .place in elsewhere _ (omega arith);
+        sure = λ i holds. absurd (holds-none i holds);
+        apart = λ i j other holds theirs same equal. holds-none i holds;
+      }
+
+  tells : (b : ℕ) → b < o .plan .buckets → Tells (o .plan .version) b [] (view (opened o) .marks b)
+  tells b under =
+      let mark : view (opened o) .marks b ≡ o .plan .version =
+      ap (λ (s : State). view s .marks b) (opened-is o)
+      ∙ ap (λ (l : List ℕ). cell l markCell) (opened-bucket (o .plan .buckets) (o .plan .version) b under) in
+      rw mark (empty-tells (o .plan .version) b (o .version-fits))
+
+  -- no record counts for anything
+  counts-none : (f : Worker → ℕ) → f idle ≡ 0 → sum f (opened o .records) ≡ 0
+  counts-none f none = rw (opened-is o) (sum-none f idle none (length (o .lent .records)))
+
+  -- an opened board is good, with nothing behind it
+  pub opened-good : Good (o .plan .workers) (o .plan .buckets) (o .plan .version) (view (opened o)) [] 0
+  unfolding total
+  opened-good =
+      record {
+        listed = opened-listed o;
+        kept = kept;
+        tells = tells;
+        tickets = omega (arith, counts-none inserting refl);
+        fits = rw (opened-is o) (omega arith);
+        charge = omega (arith, counts-none (stale (o .plan .buckets) (view (opened o) .marks)) refl);
+        budget = omega (arith, counts-none left refl);
+      }

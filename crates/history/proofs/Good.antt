@@ -1,0 +1,128 @@
+-- What holds on an opened board after every call and turn, and is all that demand 3 follows from. Assumes nothing.
+use Prim.Native.Nat.{ℕ, _+_, _*_, _-_, _^_, _≤_, _<_}
+use mathlib.Core.List.{List, _∷_}
+use mathlib.Core.Path.{_≡_, subst, _∙_}
+use native.Mathlib.Decide.{ℕ-discrete}
+use native.Mathlib.Nat.{mul-add}
+use native.Mathlib.Omega.{arith}
+use lib.ListN.{length, length-set}
+use Rattle.turn.specs.declared.Worker.{Worker}
+use Rattle.turn.specs.Effects.{Effect}
+use Rattle.engine.specs.Calls.{losses}
+use Rattle.history.specs.Trace.{Entry, total, lostSwaps, changeOf}
+use Rattle.history.proofs.Sums.{sum, sum-set, sum-others}
+use Rattle.history.proofs.View.{View, worker, inserting, left, Starts, Acts, quiet-marks, Walk, stays, starts, acts}
+use Rattle.history.proofs.Lawful.{changed, committed, changed-le}
+use Rattle.history.proofs.Counts.{commitOf, lost-quiet, onto}
+use Rattle.history.proofs.Held.{Kept, act-kept, start-kept}
+use Rattle.history.proofs.Versions.{Tells, act-tells}
+use Rattle.history.proofs.Minds.{moves-minds}
+use Rattle.history.proofs.Charges.{Pays, moves-pays, stale, stale-le, not-stale, stale-same, quiet-pays, change-fresh}
+
+-- a floor of so many workers and n buckets, opened at a version; the entries so far, the newest first; calls that may make k changes
+pub record Good (workers n version : ℕ) (s : View) (past : List Entry) (k : ℕ) : Type 0 where
+  pub listed : length (s .records) ≡ workers
+  pub kept : Kept n s
+  pub tells : (b : ℕ) → b < n → Tells version b past (s .marks b)
+  -- each commit and each insert under way has a ticket of its own, and there are fewer than 2^32
+  pub tickets : total commitOf past + sum inserting (s .records) ≤ s .last
+  pub fits : s .last < 2 ^ 32
+  -- a change makes each of the other workers stale at most, and only a stale worker loses
+  pub charge : lostSwaps past + sum (stale n (s .marks)) (s .records) ≤ (workers - 1) * total changeOf past
+  -- a change is one that the call's start has paid for
+  pub budget : total changeOf past + sum left (s .records) ≤ k
+
+module _ (workers n version : ℕ) where
+  module _
+      (s : View) (e : Entry) (v : Worker) (t : View) (act : Acts n s e v t)
+      (past : List Entry) (k : ℕ) (good : Good workers n version s past k) where
+    abbrev w : Worker
+    w = worker s (e .worker)
+
+    abbrev effect : Effect
+    effect = act .effect
+
+    -- what the turn pays comes from what the worker's record counted for
+    spends : (f : Worker → ℕ) (c : ℕ) → c + f v ≤ f w → c + sum f (t .records) ≤ sum f (s .records)
+    spends f c pays =
+        let more = sum-set f f c 0 v (λ w. omega arith) (s .records) (e .worker) (act .within) (omega (arith, pays)) in
+        rw (act .records) (omega (arith, more))
+
+    pays : Pays w effect v
+    pays = moves-pays w effect v (s .marks (e .bucket)) (act .moves)
+
+    -- where the turn changed nothing, and where it changed the mark word
+    charged :
+        Dec (changeOf e ≡ 0)
+        → lostSwaps (e ∷ past) + sum (stale n (t .marks)) (t .records) ≤ (workers - 1) * total changeOf (e ∷ past)
+    unfolding total
+    charged (yes quiet) =
+        rw (act .records, quiet)
+        (omega (
+          arith,
+          good .charge,
+          sum-set (stale n (s .marks)) (stale n (t .marks)) (losses (e .report .action)) 0 v
+              (stale-same n (s .marks) (t .marks) (quiet-marks act quiet)) (s .records) (e .worker) (act .within)
+              (omega (arith, quiet-pays n s e v t (good .kept) act quiet (moves-minds _ _ _ _ (act .moves)))),
+        ))
+    charged (no loud) =
+        let one : changeOf e ≡ 1 = omega (arith, act .changes, changed-le effect) in
+        let more = mul-add (workers - 1) 1 (total changeOf past) in
+        let long : length (s .records) ≡ workers = good .listed in
+        let some : e .worker < length (s .records) = act .within in
+        rw (act .records, one)
+        (omega (
+          arith,
+          good .charge,
+          lost-quiet e loud,
+          more,
+          sum-others (stale n (s .marks)) (stale n (t .marks)) v (λ w. omega (arith, stale-le n (t .marks) w))
+              (change-fresh n s e v t (good .kept) act loud (moves-minds _ _ _ _ (act .moves))) (s .records) (e .worker) some,
+        ))
+
+    -- a turn keeps it all
+    pub act-good : Good workers n version t (e ∷ past) k
+    unfolding total
+    act-good =
+        record {
+          listed = rw (act .records) (length-set (s .records) (e .worker) v ∙ good .listed);
+          kept = act-kept n s e v t (good .kept) act;
+          tells = λ b under. act-tells version n s e v t (good .kept) act past b (good .tells b under);
+          tickets = rw (act .last) (omega (arith, act .commits, good .tickets, spends inserting (committed effect) (pays .commit)));
+          fits = rw (act .last) (good .fits);
+          charge = charged (ℕ-discrete (changeOf e) 0);
+          budget = omega (arith, act .changes, good .budget, spends left (changed effect) (pays .change));
+        }
+
+  module _ (s : View) (v : Worker) (t : View) (start : Starts s v t) where
+    -- what the records count for grows by no more than what the new one counts for
+    brings : (f g : Worker → ℕ) → ((w : Worker) → g w ≤ f w) → sum g (t .records) ≤ sum f (s .records) + g v
+    brings f g less =
+        let more = sum-set f g 0 (g v) v less (s .records) (start .who) (start .within) (omega arith) in
+        rw (start .records) (omega (arith, more))
+
+    -- so does a start, which brings its call's changes
+    start-good : (past : List Entry) (k : ℕ) → Good workers n version s past k → Good workers n version t past (left v + k)
+    start-good past k good =
+        let stale-then = stale n (s .marks) in
+        let stale-now = stale n (t .marks) in
+        let fresh : stale-now v ≡ 0 = not-stale n (t .marks) v (λ aware. absurd (start .unaware aware)) in
+        let still = brings stale-then stale-now (stale-same n (s .marks) (t .marks) (start .marks)) in
+        record {
+          listed = rw (start .records) (length-set (s .records) (start .who) v ∙ good .listed);
+          kept = start-kept n s v t (good .kept) start;
+          tells = λ b under. rw (start .marks b) (good .tells b under);
+          tickets = omega (arith, good .tickets, start .last, brings inserting inserting (λ w. omega arith));
+          fits = start .fits (good .fits);
+          charge = omega (arith, good .charge, still, fresh);
+          budget = omega (arith, good .budget, brings left left (λ w. omega arith));
+        }
+
+  -- and so does every walk
+  pub walk-good :
+      {s u : View} {es : List Entry} {j : ℕ} → Walk n s es j u → (past : List Entry) (k : ℕ) → Good workers n version s past k
+      → Good workers n version u (onto es past) (j + k)
+  walk-good stays past k good = subst (Good workers n version _ past) (omega arith) good
+  walk-good (starts start rest) past k good =
+      subst (Good workers n version _ _) (omega arith) (walk-good rest past _ (start-good _ _ _ start past k good))
+  walk-good (acts act rest) past k good = walk-good rest (_ ∷ past) k (act-good _ _ _ _ act past k good)

@@ -1,0 +1,100 @@
+-- What each effect does to a mark word on which it is lawful: to the version, to the number of valid marks, and to the mark of a slot
+-- that it does not touch. Assumes nothing.
+use Prim.Native.Nat.{ℕ, _+_, _%_, _^_, _≤_}
+use mathlib.Core.Path.{_≡_, refl, ap, _∙_}
+use native.Mathlib.Omega.{arith}
+use Rattle.mark.specs.Word.{version, markOf, setMark, nextVersion, isMark, countMarks}
+use Rattle.mark.proofs.Fields.{version-lt, version-set, version-bump, mark-set-other, mark-bump}
+use Rattle.mark.proofs.Counts.{count-set, count-bump}
+use Rattle.turn.specs.Effects.{Effect, none, claim, commit, free, close, effectOn}
+
+-- 1 for a commit
+abbrev pub committed : Effect → ℕ
+committed none = 0
+committed (claim s) = 0
+committed (commit s) = 1
+committed (free s) = 0
+committed (close s) = 0
+
+-- 1 for a close
+abbrev pub closed : Effect → ℕ
+closed none = 0
+closed (claim s) = 0
+closed (commit s) = 0
+closed (free s) = 0
+closed (close s) = 1
+
+-- 1 for a change
+abbrev pub changed : Effect → ℕ
+changed none = 0
+changed (claim s) = 1
+changed (commit s) = 1
+changed (free s) = 1
+changed (close s) = 1
+
+-- a turn makes one change at most
+pub changed-le : (e : Effect) → changed e ≤ 1
+changed-le none = omega arith
+changed-le (claim s) = omega arith
+changed-le (commit s) = omega arith
+changed-le (free s) = omega arith
+changed-le (close s) = omega arith
+
+-- a claim is of an empty slot, a commit and a free are of one that is being inserted, and a close is of a valid one
+abbrev pub Lawful : Effect → ℕ → Type 0
+Lawful none m = Unit {0}
+Lawful (claim s) m = (s ≤ 2) × (markOf m s ≡ 0)
+Lawful (commit s) m = (s ≤ 2) × (markOf m s ≡ 2)
+Lawful (free s) m = (s ≤ 2) × (markOf m s ≡ 2)
+Lawful (close s) m = (s ≤ 2) × (markOf m s ≡ 1)
+
+version-kept : (m s new : ℕ) → version (setMark m s new) ≡ (version m + 0) % 2 ^ 32
+version-kept m s new = omega (arith, version-set m s new, version-lt m)
+
+-- a commit moves the version on by one, and nothing else moves it
+pub version-effect : (e : Effect) (m : ℕ) → version (effectOn e m) ≡ (version m + committed e) % 2 ^ 32
+version-effect none m = omega (arith, version-lt m)
+version-effect (claim s) m = version-kept m s _
+version-effect (commit s) m = version-bump _ ∙ ap nextVersion (version-set m s _)
+version-effect (free s) m = version-kept m s _
+version-effect (close s) m = version-kept m s _
+
+-- a set at a slot whose mark is known
+valid-set :
+    (m s old new : ℕ)
+    → (s ≤ 2) × (markOf m s ≡ old)
+    → new ≤ 2
+    → countMarks 1 (setMark m s new) + isMark 1 old ≡ countMarks 1 m + isMark 1 new
+valid-set m s old new known few = rw (← known .1) (count-set 1 m s new (omega arith) (omega arith))
+
+-- a lawful commit makes one more slot valid, a lawful close one less, and nothing else does
+pub valid-effect : (e : Effect) (m : ℕ) → Lawful e m → countMarks 1 (effectOn e m) + closed e ≡ countMarks 1 m + committed e
+valid-effect none m law = refl
+valid-effect (claim s) m law = valid-set m s 0 _ law (omega arith)
+valid-effect (commit s) m law = omega (arith, count-bump 1 (setMark m s 1), valid-set m s 2 1 law (omega arith))
+valid-effect (free s) m law = valid-set m s 2 _ law (omega arith)
+valid-effect (close s) m law = valid-set m s 1 _ law (omega arith)
+
+-- what is no change leaves the mark word
+pub quiet-effect : (e : Effect) (m : ℕ) → changed e ≡ 0 → effectOn e m ≡ m
+quiet-effect none m quiet = refl
+quiet-effect (claim s) m quiet = absurd (omega arith)
+quiet-effect (commit s) m quiet = absurd (omega arith)
+quiet-effect (free s) m quiet = absurd (omega arith)
+quiet-effect (close s) m quiet = absurd (omega arith)
+
+-- an effect at another slot, or none
+abbrev pub Spares : ℕ → Effect → Type 0
+Spares h none = Unit {0}
+Spares h (claim s) = s ≡ h → ⊥
+Spares h (commit s) = s ≡ h → ⊥
+Spares h (free s) = s ≡ h → ⊥
+Spares h (close s) = s ≡ h → ⊥
+
+-- it leaves the slot's mark as it was
+pub spared : (e : Effect) (m h : ℕ) → Spares h e → markOf (effectOn e m) h ≡ markOf m h
+spared none m h other = refl
+spared (claim s) m h other = mark-set-other m s _ h (omega arith) other
+spared (commit s) m h other = mark-bump _ h ∙ mark-set-other m s _ h (omega arith) other
+spared (free s) m h other = mark-set-other m s _ h (omega arith) other
+spared (close s) m h other = mark-set-other m s _ h (omega arith) other

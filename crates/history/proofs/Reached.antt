@@ -1,0 +1,185 @@
+-- Histories reach every kind of turn that demand 3 speaks of, also between a turn and its moment: trials P6 and P11 of document 01 do,
+-- computed turn by turn. Quotations are document 01's. Assumes nothing.
+use Prim.Native.Nat.{ℕ}
+use mathlib.Core.Bool.{false}
+use mathlib.Core.List.{List, []}
+use mathlib.Core.Logic.{inl}
+use mathlib.Core.Path.{_≡_, refl}
+use native.Mathlib.Omega.{arith}
+use lib.ListN.{length, replicate}
+use Rattle.mark.specs.Word as Word
+use Rattle.turn.specs.declared.Action.the-variants.{Won}
+use Rattle.turn.specs.declared.Progress.the-variants.{GoesOn}
+use Rattle.turn.specs.Worker as Record
+use Rattle.turn.specs.Bucket as Bucket
+use Rattle.turn.specs.Bucket.{cell, markCell}
+use Rattle.turn.specs.Places as Places
+use Rattle.turn.specs.Turn as Turn
+use Rattle.engine.specs.Board as Board
+use Rattle.engine.specs.Board.{bucketAt}
+use Rattle.engine.specs.Refusals as Refusals
+use Rattle.engine.specs.Refusals.{openNumber}
+use Rattle.engine.specs.Calls as Calls
+use Rattle.engine.specs.Calls.{planned, blank}
+use Rattle.history.specs.Trace.{Entry, Loses, Claims, Commits, Closes, Frees, ReadsWhole, Some, total, lostSwaps, changeOf}
+use Rattle.history.specs.History.{Opening, Call, recordOf, state, trace, turnEntries, stateFrom, traceFrom, sumFrom, inserts, removes}
+use Rattle.history.specs.Moment.{AnothersIn, HasMoment}
+use Rattle.history.specs.Trials.{A, planFor, sleeper, wordRepeats, repeatedWord, refusedStarts}
+use Rattle.history.proofs.Cuts.{cut-later}
+use Rattle.history.proofs.Found.{cut-by-number, found, moment-found}
+
+-- ---- the floors
+
+-- so many workers and one bucket, opened on a board and a list that are lent in the right sizes, with something on them
+abbrev pub lent : (workers : ℕ) → openNumber (planned (planFor workers)) (replicate 8 1) (length (replicate workers blank)) ≡ 0 → Opening
+lent workers accepted =
+    record {
+      lent = record { board = replicate 8 1; floor = record { workers = 0; buckets = 0; last = 0 }; records = replicate workers blank };
+      plan = planFor workers;
+      accepted = accepted;
+      version-fits = omega arith;
+    }
+
+-- "floor W 2, N 1, version 0"
+unfoldable pub twoWorkers : Opening
+unfolding Refusals.openNumber Refusals.wrongSizes Refusals.wrongFloor
+twoWorkers = lent 2 refl
+
+-- "W 3"
+unfoldable pub threeWorkers : Opening
+unfolding Refusals.openNumber Refusals.wrongSizes Refusals.wrongFloor
+threeWorkers = lent 3 refl
+
+-- the trace of P6
+abbrev pub sleeperTrace : List Entry
+sleeperTrace = trace twoWorkers sleeper
+
+-- the trace of P11
+abbrev pub repeatedTrace : List Entry
+repeatedTrace = trace threeWorkers repeatedWord
+
+-- all that these traces are computed by: what unfolds this unfolds it
+computed : Unit {0}
+unfolding
+    twoWorkers threeWorkers stateFrom traceFrom sumFrom turnEntries total cut-later cut-by-number found moment-found
+    Calls.openCall Calls.startCall Calls.turned Calls.turnCall Calls.runFrom Calls.runCall
+    Refusals.wrongFloor Refusals.wrongSizes
+    Refusals.openNumber Refusals.startNumber Refusals.eachNumber Refusals.turnNumber Refusals.runNumber
+    Turn.turnRefusal Record.broken Record.isIdle Record.sound Record.mayStand Record.ticketFits Record.heldFits Record.wordFits
+    Bucket.brokenBucket Places.turn Places.lookFound Places.lookEmpty Places.findSlot Places.nextSlot Places.nextKey
+    Places.after1 Places.after2 Places.after3 Places.after4 Places.after5 Places.after11 Places.after12
+    Board.openedBoard Word.version Word.markOf Word.byte7 Word.setMark Word.bump Word.firstEmpty Word.wellFormed
+computed = tt
+
+-- ---- every kind of turn
+
+-- a history has a turn of which P holds
+pub record Reached (P : Entry → Type 0) : Type 0 where
+  pub opening : Opening
+  pub calls : List Call
+  pub some : Some P (trace opening calls)
+
+-- lost swaps, claims, commits, closes, and slots given back
+pub record EveryKind : Type 0 where
+  pub lost : Reached Loses
+  pub claimed : Reached Claims
+  pub committed : Reached Commits
+  pub closed : Reached Closes
+  pub freed : Reached Frees
+
+-- histories have each of them: the sleeper has the first four, and P11 the last
+pub every-kind-reached : EveryKind
+unfolding computed
+every-kind-reached =
+    record {
+      lost = record { opening = twoWorkers; calls = sleeper; some = found Loses sleeperTrace 29 refl };
+      claimed = record { opening = twoWorkers; calls = sleeper; some = found Claims sleeperTrace 7 (refl, refl) };
+      committed = record { opening = twoWorkers; calls = sleeper; some = found Commits sleeperTrace 10 (refl, refl) };
+      closed = record { opening = twoWorkers; calls = sleeper; some = found Closes sleeperTrace 17 (refl, refl) };
+      freed = record { opening = threeWorkers; calls = repeatedWord; some = found Frees repeatedTrace 37 (refl, refl) };
+    }
+
+-- ---- how many
+
+-- a history of so many turns, changes, lost swaps, accepted inserts and accepted removes
+pub record Totals (o : Opening) (calls : List Call) (turns changed lost inserted removed : ℕ) : Type 0 where
+  pub turns-are : length (trace o calls) ≡ turns
+  pub changes-are : total changeOf (trace o calls) ≡ changed
+  pub lost-are : lostSwaps (trace o calls) ≡ lost
+  pub inserts-are : inserts o calls ≡ inserted
+  pub removes-are : removes o calls ≡ removed
+
+-- "T 34 6 1 0", with two inserts and two removes: at most 6 could be lost
+pub sleeper-totals : Totals twoWorkers sleeper 34 6 1 2 2
+unfolding computed
+sleeper-totals = record { turns-are = refl; changes-are = refl; lost-are = refl; inserts-are = refl; removes-are = refl }
+
+-- "6 changes, 1 lost.", in 48 turns, with four inserts
+pub repeated-totals : Totals threeWorkers repeatedWord 48 6 1 4 0
+unfolding computed
+repeated-totals = record { turns-are = refl; changes-are = refl; lost-are = refl; inserts-are = refl; removes-are = refl }
+
+-- a start that is refused is not counted
+pub refused-totals : Totals twoWorkers refusedStarts 0 0 0 1 0
+unfolding computed
+refused-totals = record { turns-are = refl; changes-are = refl; lost-are = refl; inserts-are = refl; removes-are = refl }
+
+-- ---- what came between
+
+-- a lost swap at turn 30 of P6, its moment at turn 12, and a close and a commit by another worker in between
+pub record Sleeps : Type 0 where
+  pub lost : Some Loses sleeperTrace
+  pub turn-30 : length (lost .older) ≡ 29
+  pub moment : HasMoment (lost .older) (lost .entry)
+  pub turn-12 : length (moment .older) ≡ 11
+  pub closed : Some (λ e. AnothersIn (lost .entry) e × Closes e) (moment .newer)
+  pub committed : Some (λ e. AnothersIn (lost .entry) e × Commits e) (moment .newer)
+
+-- the sleeper loses the swap that it fell asleep before, since the lot was closed and opened again after its moment
+pub sleeper-sleeps : Sleeps
+unfolding computed
+sleeper-sleeps =
+    let s : Some Loses sleeperTrace = found Loses sleeperTrace 29 refl in
+    let m : HasMoment (s .older) (s .entry) =
+    moment-found (s .entry) (s .older) 11 (record { own = refl; sees = inl refl; latest = refl; bucket = refl; first = refl; rest = refl }) in
+    record {
+      lost = s;
+      turn-30 = refl;
+      moment = m;
+      turn-12 = refl;
+      closed = found (λ e. AnothersIn (s .entry) e × Closes e) (m .newer) 5 (((λ e. omega arith), refl), (refl, refl));
+      committed = found (λ e. AnothersIn (s .entry) e × Commits e) (m .newer) 16 (((λ e. omega arith), refl), (refl, refl));
+    }
+
+-- A's last turn of P11, the mark word before it and the one that A read, and a slot freed and one claimed by others since its moment
+pub record Repeats : Type 0 where
+  pub won : Some Claims repeatedTrace
+  pub by : won .entry .worker ≡ A
+  pub before : won .older ≡ trace threeWorkers wordRepeats
+  -- version 1; marks 2, 1, 0
+  pub read : recordOf (state threeWorkers wordRepeats) A .word ≡ 1108101562369
+  pub again : cell (bucketAt (state threeWorkers wordRepeats .board) 0) markCell ≡ 1108101562369
+  pub moment : HasMoment (won .older) (won .entry)
+  pub reading : ReadsWhole (moment .entry)
+  pub freed : Some (λ e. AnothersIn (won .entry) e × Frees e) (moment .newer)
+  pub claimed : Some (λ e. AnothersIn (won .entry) e × Claims e) (moment .newer)
+
+-- "the mark word is again the one A read, and A's ninth turn, a swap, wins", although others changed it in between
+pub word-repeats : Repeats
+unfolding computed
+word-repeats =
+    let y : Entry = record { worker = A; bucket = 0; place = 6; report = record { action = Won; progress = GoesOn; full = false } } in
+    let m : HasMoment (trace threeWorkers wordRepeats) y =
+    moment-found y (trace threeWorkers wordRepeats) 29
+    (record { own = refl; sees = inl refl; latest = refl; bucket = refl; first = refl; rest = refl }) in
+    record {
+      won = record { older = trace threeWorkers wordRepeats; entry = y; newer = []; cut = refl; holds = (refl, refl) };
+      by = refl;
+      before = refl;
+      read = refl;
+      again = refl;
+      moment = m;
+      reading = refl;
+      freed = found (λ e. AnothersIn y e × Frees e) (m .newer) 7 (((λ e. omega arith), refl), (refl, refl));
+      claimed = found (λ e. AnothersIn y e × Claims e) (m .newer) 16 (((λ e. omega arith), refl), (refl, refl));
+    }

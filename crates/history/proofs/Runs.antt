@@ -1,0 +1,196 @@
+-- A run is its turns, called one by one, as many as it reports as done; and what it counts is what they did. Assumes nothing.
+use Prim.Native.Nat.{ℕ, _+_}
+use mathlib.Core.Bool.{Bool, true, false, cond}
+use mathlib.Core.List.{List, [], _∷_, _++_, map}
+use mathlib.Core.Path.{_≡_, refl, sym, ap, ap₂, _∙_}
+use native.Mathlib.Omega.{arith}
+use lib.Dec.{eqb}
+use lib.ListN.{length, take, length-set}
+use borrow.Author.Tests.{eqb-true}
+use Rattle.mark.proofs.Choices.{by-cases, passes}
+use Rattle.turn.specs.declared.Worker.{Worker}
+use Rattle.turn.specs.declared.Report.{Report}
+use Rattle.turn.specs.declared.Answer.the-variants.{Done}
+use Rattle.turn.specs.declared.Turned.{Turned}
+use Rattle.turn.specs.Turn.{After}
+use Rattle.turn.specs.Turn as Turn
+use Rattle.engine.specs.declared.Totals.{Totals}
+use Rattle.engine.specs.declared.Ran.{Ran}
+use Rattle.engine.specs.Refusals.{wrongFloor, wrongSizes, turnNumber, runNumber}
+use Rattle.engine.specs.Calls.{tallied, noTurns, standing, goOn, turned, turnCall, runFrom, runCall}
+use Rattle.engine.proofs.Stops.{run-turn-is-turn}
+use Rattle.engine.proofs.Keeps.{turn-keeps}
+use Rattle.history.specs.Trace.{Entry, total, lostSwaps, changeOf, fullOf}
+use Rattle.history.specs.History.{State, Opening, Call, turn, run, opened, seatOf, recordOf, turnBy, runOf, turnedAs, ranAs, after}
+use Rattle.history.specs.History.{entryOf, andThen, turnEntries, entries, stateFrom, traceFrom, state, trace}
+use Rattle.history.proofs.Histories.{stateFrom-append, traceFrom-append}
+
+-- ---- how the turns of a run come out
+
+-- the totals with these entries more
+abbrev counted : Totals → List Entry → Totals
+counted t [] = t
+counted t (e ∷ es) = counted (tallied (e .place) (e .report) t) es
+
+-- the floor, the board and the list of records fit together
+abbrev RightSizes : State → Type 0
+RightSizes s = wrongSizes (s .floor) (s .board) (length (s .records)) ≡ false
+
+-- turns from s, with these totals before them, came to x with these entries: as many of them are done as there are entries
+record Follows (s : State) (turns : List ℕ) (t : Totals) (x : After Ran) (es : List Entry) : Type 0 where
+  left : ranAs s x ≡ stateFrom s (map turn (take (length es) turns))
+  did : es ≡ traceFrom s (map turn (take (length es) turns))
+  totals : x .handed .totals ≡ counted t es
+
+-- no turn is done
+none-follow : (s : State) (turns : List ℕ) (t : Totals) (number : ℕ) → Follows s turns t (standing (s .board) (s .records) t number) []
+unfolding stateFrom traceFrom
+none-follow s turns t number = record { left = refl; did = refl; totals = refl }
+
+-- a turn keeps the sizes
+still-right : (s : State) (i : ℕ) → RightSizes s → RightSizes (turnedAs s i (turnBy s i))
+unfolding wrongSizes wrongFloor
+still-right s i right = rw (length-set (s .records) i (turnBy s i .handed .worker), turn-keeps (s .board) (seatOf s i) (recordOf s i) .long) right
+
+-- how they come out from a state, with any totals before them
+abbrev Turns : State → List ℕ → Type 0
+Turns s turns = (t : Totals) → Follows s turns t (runFrom (s .floor) turns (standing (s .board) (s .records) t 0)) (turnEntries s turns)
+
+module _ (s : State) (i : ℕ) (turns : List ℕ) where
+  -- how they come out where the turn of worker i, the first, came to x
+  abbrev First : After Turned → Type 0
+  First x =
+      turnBy s i ≡ x
+      → Turns (turnedAs s i x) turns
+      → (t : Totals)
+      → Follows s (i ∷ turns) t
+      (goOn (runFrom (s .floor) turns) i (recordOf s i .place) (x .words) (x .handed .worker) (x .handed .answer)
+      (record { records = s .records; totals = t; stop = 0 }))
+      (andThen (entryOf s i (x .handed .answer)) (turnEntries (turnedAs s i x) turns))
+
+  -- it is done, and the others come after it
+  first-done : (board : List ℕ) (w : Worker) (r : Report) → First (Turn.after board (record { worker = w; answer = Done r }))
+  unfolding stateFrom traceFrom
+  first-done board w r is others t =
+      let rest = others (tallied (recordOf s i .place) r t) in
+      let next : State = turnedAs s i (Turn.after board (record { worker = w; answer = Done r })) in
+      let done : List Call = map turn (take (length (turnEntries next turns)) turns) in
+      record {
+        left = rest .left ∙ ap (λ x. stateFrom (turnedAs s i x) done) (sym is);
+        did =
+            ap (λ (es : List Entry). entryOf s i (Done r) ++ es) (rest .did)
+            ∙ ap (λ x. entryOf s i (x .handed .answer) ++ traceFrom (turnedAs s i x) done) (sym is);
+        totals = rest .totals;
+      }
+
+  first : First (turnBy s i)
+  unfolding turnCall turned
+  first =
+      by-cases First (eqb (turnNumber (s .floor) (s .board) (length (s .records)) i (recordOf s i)) 0) _ _
+      (λ is. first-done _ _ _) (λ isnot same others t. none-follow s (i ∷ turns) t _)
+
+  more : RightSizes s → Turns (turnedAs s i (turnBy s i)) turns → Turns s (i ∷ turns)
+  unfolding runFrom turnEntries
+  more right others = rw (run-turn-is-turn (s .board) (seatOf s i) (recordOf s i) right) (first refl others)
+
+turns-follow : (s : State) (turns : List ℕ) → RightSizes s → Turns s turns
+unfolding runFrom turnEntries
+turns-follow s [] right = λ t. none-follow s [] t 0
+turns-follow s (i ∷ turns) right = more s i turns right (turns-follow (turnedAs s i (turnBy s i)) turns (still-right s i right))
+
+-- ---- a run
+
+module _ (s : State) (turns : List ℕ) where
+  -- its number of refusal
+  abbrev number : ℕ
+  number = runNumber (s .floor) (s .board) (length (s .records)) turns
+
+  either-follows :
+      (t : Bool)
+      → eqb number 0 ≡ t
+      → Follows s turns noTurns
+      (cond t (runFrom (s .floor) turns (standing (s .board) (s .records) noTurns 0)) (standing (s .board) (s .records) noTurns number))
+      (cond t (turnEntries s turns) [])
+  unfolding runNumber
+  either-follows true is = turns-follow s turns (passes _ _ _ (eqb-true _ _ is) .0) noTurns
+  either-follows false isnot = none-follow s turns noTurns _
+
+  run-follows : Follows s turns noTurns (runOf s turns) (entries s (run turns))
+  unfolding runCall
+  run-follows = either-follows _ refl
+
+-- ---- what it counts
+
+-- a count that goes up by an entry's number with each entry
+module _ (count : Totals → ℕ) (f : Entry → ℕ) (adds : (e : Entry) (t : Totals) → count (tallied (e .place) (e .report) t) ≡ count t + f e) where
+  counted-adds : (t : Totals) (es : List Entry) → count (counted t es) ≡ count t + total f es
+  unfolding total
+  counted-adds t [] = omega arith
+  counted-adds t (e ∷ es) = omega (arith, adds e t, counted-adds (tallied (e .place) (e .report) t) es)
+
+  run-count : count noTurns ≡ 0 → (s : State) (turns : List ℕ) → count (runOf s turns .handed .totals) ≡ total f (entries s (run turns))
+  run-count none s turns =
+      ap count (run-follows s turns .totals) ∙ omega (arith, counted-adds noTurns (entries s (run turns)), none)
+
+total-ones : (es : List Entry) → total (λ e. 1) es ≡ length es
+unfolding total
+total-ones [] = refl
+total-ones (e ∷ es) = omega (arith, total-ones es)
+
+module _ (s : State) (turns : List ℕ) where
+  -- the turns that a run reports are its entries
+  pub run-turns : runOf s turns .handed .totals .turns ≡ length (entries s (run turns))
+  run-turns = run-count (λ t. t .turns) (λ e. 1) (λ e t. refl) refl s turns ∙ total-ones (entries s (run turns))
+
+  -- the lost swaps that it reports are theirs
+  pub run-lost : runOf s turns .handed .totals .lost ≡ lostSwaps (entries s (run turns))
+  run-lost = run-count (λ t. t .lost) _ (λ e t. refl) refl s turns
+
+  -- and so are the changes
+  pub run-changes : runOf s turns .handed .totals .changes ≡ total changeOf (entries s (run turns))
+  run-changes = run-count (λ t. t .changes) _ (λ e t. refl) refl s turns
+
+  -- and the reports of a full round
+  pub run-full : runOf s turns .handed .totals .full ≡ total fullOf (entries s (run turns))
+  run-full = run-count (λ t. t .full) _ (λ e t. refl) refl s turns
+
+  -- ---- what it leaves and does
+
+  -- a run leaves the state that its turns leave, called one by one, as many as it reports as done
+  pub run-state : after s (run turns) ≡ stateFrom s (map turn (take (runOf s turns .handed .totals .turns) turns))
+  run-state = rw run-turns (run-follows s turns .left)
+
+  -- and its entries are theirs
+  pub run-trace : entries s (run turns) ≡ traceFrom s (map turn (take (runOf s turns .handed .totals .turns) turns))
+  run-trace = rw run-turns (run-follows s turns .did)
+
+-- ---- histories
+
+module _ (s : State) (turns : List ℕ) (later : List Call) where
+  abbrev done : List Call
+  done = map turn (take (runOf s turns .handed .totals .turns) turns)
+
+  run-then-state : stateFrom s (run turns ∷ later) ≡ stateFrom s (done ++ later)
+  unfolding stateFrom
+  run-then-state = ap (λ (x : State). stateFrom x later) (run-state s turns) ∙ sym (stateFrom-append s done later)
+
+  run-then-trace : traceFrom s (run turns ∷ later) ≡ traceFrom s (done ++ later)
+  unfolding traceFrom
+  run-then-trace =
+      ap₂ (λ (es : List Entry) (x : State). es ++ traceFrom x later) (run-trace s turns) (run-state s turns)
+      ∙ sym (traceFrom-append s done later)
+
+-- a history with a run in it is one with its turns instead, called one by one, as many as the run reports as done
+pub runs-are-turns :
+    (o : Opening) (earlier : List Call) (turns : List ℕ) (later : List Call)
+    → let turnsDone = map turn (take (runOf (state o earlier) turns .handed .totals .turns) turns) in
+    (state o (earlier ++ (run turns ∷ later)) ≡ state o (earlier ++ (turnsDone ++ later)))
+    × (trace o (earlier ++ (run turns ∷ later)) ≡ trace o (earlier ++ (turnsDone ++ later)))
+runs-are-turns o earlier turns later = (
+  stateFrom-append (opened o) earlier _
+      ∙ run-then-state (state o earlier) turns later
+      ∙ sym (stateFrom-append (opened o) earlier _),
+  traceFrom-append (opened o) earlier _
+      ∙ ap (λ (es : List Entry). trace o earlier ++ es) (run-then-trace (state o earlier) turns later)
+      ∙ sym (traceFrom-append (opened o) earlier _),
+)

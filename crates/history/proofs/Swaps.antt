@@ -1,0 +1,171 @@
+-- Why a swap loses and why it wins, on a walk from a good state: what its worker has in mind is the mark word as it stood at its moment.
+-- Assumes nothing.
+use Prim.Native.Nat.{ℕ, _+_, _^_, _<_}
+use mathlib.Core.List.{List, [], _∷_, _++_}
+use mathlib.Core.Path.{_≡_, refl, sym, ap, subst, _∙_}
+use mathlib.Core.Logic.{_⊎_, inl, inr}
+use native.Mathlib.Decide.{ℕ-discrete}
+use native.Mathlib.Nat.{mod-lt}
+use native.Mathlib.Omega.{arith}
+use Rattle.turn.specs.declared.Worker.{Worker}
+use Rattle.turn.proofs.Effects.{Swapper, expects}
+use Rattle.engine.specs.Board.{bucketOf}
+use Rattle.history.specs.Trace.{Entry, Wins, Loses, Swaps, Commits, Closes, Changes, Some, None, total, changeOf}
+use Rattle.history.specs.Moment.{Own, IsMoment, HasMoment, ChangedByAnother, CommittedOrClosedByAnother}
+use Rattle.history.proofs.View.{View, worker, Aware, swapper-aware, Acts, quiet-marks, Walk, stays, starts, acts, new-record}
+use Rattle.history.proofs.Counts.{change-or-none, change-counts, commitOf, closeOf}
+use Rattle.history.proofs.Counts.{inBucket, in-bucket, in-bucket-le, onto, total-onto}
+use Rattle.history.proofs.Held.{home}
+use Rattle.history.proofs.Versions.{Tells}
+use Rattle.history.proofs.Minds.{Minds, renews, keeps, forgets, act-expects}
+use Rattle.history.proofs.Good.{Good, act-good, walk-good}
+use Rattle.history.proofs.Cuts.{some-here, some-later, some-or-none, some-as, some-counts, CutAt, cut-at}
+use Rattle.history.proofs.Remembers.{act-minds, sees-not, Still, back}
+
+-- ---- a bucket that no one changes
+
+-- an entry that changes the mark word of bucket b
+abbrev ChangesIn : ℕ → Entry → Type 0
+ChangesIn b e = (e .bucket ≡ b) × Changes e
+
+module _ {n : ℕ} (b : ℕ) where
+  act-quiet : {s : View} {e : Entry} {v : Worker} {t : View} → Acts n s e v t → (ChangesIn b e → ⊥) → t .marks b ≡ s .marks b
+  act-quiet {s} {e} {v} {t} act none = by (ℕ-discrete b (e .bucket)) (change-or-none e)
+    where
+      by : Dec (b ≡ e .bucket) → Changes e ⊎ (changeOf e ≡ 0) → t .marks b ≡ s .marks b
+      by (no other) change = act .there b other
+      by (yes is) (inl change) = absurd (none (sym is, change))
+      by (yes is) (inr quiet) = quiet-marks act quiet b
+
+  -- its mark word stays
+  walk-quiet : {s u : View} {es : List Entry} {k : ℕ} → Walk n s es k u → None (ChangesIn b) es → u .marks b ≡ s .marks b
+  walk-quiet stays none = refl
+  walk-quiet (starts start rest) none = walk-quiet rest none ∙ start .marks b
+  walk-quiet (acts act rest) none =
+      walk-quiet rest (λ some. none (some-later _ _ _ some)) ∙ act-quiet act (λ change. none (some-here _ _ _ change))
+
+changes-test : (b : ℕ) (e : Entry) → ChangesIn b e ⊎ (ChangesIn b e → ⊥)
+changes-test b e = by (ℕ-discrete (e .bucket) b) (change-or-none e)
+  where
+    by : Dec (e .bucket ≡ b) → Changes e ⊎ (changeOf e ≡ 0) → ChangesIn b e ⊎ (ChangesIn b e → ⊥)
+    by (no other) change = inr (λ is. other (is .0))
+    by (yes is) (inl change) = inl (is, change)
+    by (yes is) (inr quiet) = inr (λ change. omega (arith, change-counts e (change .1)))
+
+-- ---- a swap
+
+module _ {n : ℕ} {s : View} {y : Entry} {v : Worker} {t : View} (act : Acts n s y v t) where
+  -- the worker of a swap is in the midst of a round
+  swapper : Swaps y → Swapper (worker s (y .worker))
+  swapper (inl won) = act .went .won won .0
+  swapper (inr lost) = act .went .lost lost .0
+
+  -- and so has a word in mind
+  pub swap-aware : Swaps y → Aware (worker s (y .worker))
+  swap-aware swap = swapper-aware (worker s (y .worker)) (swapper swap)
+
+-- ---- a swap and its moment
+
+module _ (workers n opened : ℕ) {s u : View} {es : List Entry} {k : ℕ} (walk : Walk n s es k u) (good : Good workers n opened s [] 0) where
+  module _
+      (before : List Entry) (x : Entry) (between : List Entry) (y : Entry) (after : List Entry)
+      (cut : es ≡ before ++ (x ∷ (between ++ (y ∷ after)))) (moment : IsMoment x between y) (swap : Swaps y) where
+    abbrev at-x : CutAt n s before x (between ++ (y ∷ after)) u
+    at-x = cut-at n x (between ++ (y ∷ after)) before walk cut
+
+    abbrev at-y : CutAt n (at-x .there) between y after u
+    at-y = cut-at n y after between (at-x .rest) refl
+
+    abbrev then : View
+    then = at-x .there
+
+    abbrev now : View
+    now = at-y .here
+
+    abbrev w : Worker
+    w = worker now (y .worker)
+
+    abbrev past : List Entry
+    past = x ∷ onto before []
+
+    good-then : Good workers n opened then past (at-x .many + 0)
+    good-then = act-good workers n opened _ _ _ _ (at-x .act) _ _ (walk-good workers n opened (at-x .first) [] 0 good)
+
+    good-now : Good workers n opened now (onto between past) (at-y .many + (at-x .many + 0))
+    good-now = walk-good workers n opened (at-y .first) past _ good-then
+
+    -- between its moment and its swap a worker keeps the word that it has in mind
+    still : Still n then between now y
+    still = by (back n y (at-y .first) (swap-aware (at-y .act) swap) (at-y .act .bucket))
+      where
+        by : HasMoment between y ⊎ Still n then between now y → Still n then between now y
+        by (inl has) = absurd (moment .latest (some-as _ _ _ has (has .holds .0 .own, has .holds .0 .sees)))
+        by (inr still) = still
+
+    recorded : worker then (y .worker) ≡ at-x .new
+    recorded =
+        ap (worker then) (sym (moment .own)) ∙ new-record (at-x .here) then (x .worker) (at-x .new) (at-x .act .records) (at-x .act .within)
+
+    -- and that is the mark word as it stood at the moment
+    saw : w .word ≡ then .marks (y .bucket)
+    saw = by (act-minds (at-x .act))
+      where
+        by :
+            Minds (at-x .here .marks (x .bucket)) (worker (at-x .here) (x .worker)) (at-x .act .effect) (at-x .new)
+            → w .word ≡ then .marks (y .bucket)
+        by (renews how key word) =
+            let kept : home n (at-x .new) ≡ y .bucket = ap (home n) (sym recorded) ∙ sym (still .home-same) ∙ sym (at-y .act .bucket) in
+            let homes : x .bucket ≡ y .bucket = at-x .act .bucket ∙ ap (λ (l : ℕ). bucketOf l n) (sym key) ∙ kept in
+            still .word ∙ ap (λ (v : Worker). v .word) recorded ∙ word ∙ sym (at-x .act .here) ∙ ap (then .marks) homes
+        by (keeps quiet call word from to) = absurd (sees-not (at-x .act) (rw quiet) from (moment .sees))
+        by (forgets unaware) = absurd (unaware (subst Aware recorded (still .aware)))
+
+    -- so the swap expects it
+    expected : expects w ≡ then .marks (y .bucket)
+    expected =
+        act-expects n now y (at-y .new) (at-y .there) (good-now .kept) (at-y .act) (swapper (at-y .act) swap) ∙ saw
+
+    -- a swap loses only if another worker changed the mark word since
+    pub lost-since : Loses y → Some (ChangedByAnother y) between
+    lost-since lost = by (some-or-none (ChangesIn (y .bucket)) (changes-test (y .bucket)) between)
+      where
+        by : Some (ChangesIn (y .bucket)) between ⊎ None (ChangesIn (y .bucket)) between → Some (ChangedByAnother y) between
+        by (inl some) =
+            let another : Own y (some .entry) → ⊥ = λ own. moment .latest (some-as _ _ _ some (own, inr (some .holds .1))) in
+            some-as _ _ _ some ((another, some .holds .0), some .holds .1)
+        by (inr none) = absurd (at-y .act .went .lost lost .1 (expected ∙ sym (walk-quiet (y .bucket) (at-y .first) none)))
+
+    -- what is counted between them in the bucket
+    abbrev count : (Entry → ℕ) → ℕ
+    count f = total (inBucket (y .bucket) f) between
+
+    -- a swap that wins finds the mark word as it stood at the moment, so that no one has committed or closed
+    none-between : 0 < n → Wins y → (count commitOf ≡ 0) × (count closeOf ≡ 0)
+    none-between some won =
+        let b = y .bucket in
+        let under : b < n = rw (at-y .act .bucket) (mod-lt (w .key) some) in
+        let same : then .marks b ≡ now .marks b = sym expected ∙ at-y .act .went .won won .1 in
+        let told = good-then .tells b under in
+        let tells = subst (Tells opened b (onto between past)) (sym same) (good-now .tells b under) in
+        let commits = total-onto (inBucket b commitOf) between past in
+        let closes = total-onto (inBucket b closeOf) between past in
+        let few : total (inBucket b commitOf) (onto between past) < 2 ^ 32 =
+        omega (arith, in-bucket-le b commitOf (onto between past), good-now .tickets, good-now .fits) in
+        let none : count commitOf ≡ 0 = omega (arith, told .commits, tells .commits, commits, few) in
+        (none, omega (arith, told .valid, tells .valid, commits, closes, none))
+
+    counts : (f : Entry → ℕ) → (some : Some (CommittedOrClosedByAnother y) between) → f (some .entry) ≡ 1 → count f ≡ 0 → ⊥
+    counts f some one none =
+        omega (
+          arith,
+          some-counts (inBucket (y .bucket) f) (CommittedOrClosedByAnother y) between some,
+          in-bucket (y .bucket) f (some .entry) (some .holds .0 .1),
+        )
+
+    -- a swap wins only if no other worker committed or closed in that bucket since
+    pub won-since : 0 < n → Wins y → None (CommittedOrClosedByAnother y) between
+    won-since positive won some = by (some .holds .1)
+      where
+        by : Commits (some .entry) ⊎ Closes (some .entry) → ⊥
+        by (inl commits) = counts commitOf some (rw (commits .0, commits .1)) (none-between positive won .0)
+        by (inr closes) = counts closeOf some (rw (closes .0, closes .1)) (none-between positive won .1)

@@ -1,0 +1,124 @@
+-- What demand 3 goes by: of the board the mark words, of the floor the last ticket, and the records; and the two things that can
+-- happen to them, an accepted start and a turn that is done. Assumes nothing.
+use Prim.Native.Nat.{ℕ, _+_, _^_, _≤_, _<_}
+use mathlib.Core.Bool.{cond}
+use mathlib.Core.List.{List, [], _∷_}
+use mathlib.Core.Path.{_≡_, sym, _∙_}
+use native.Mathlib.Decide.{ℕ-discrete}
+use lib.Dec.{eqb}
+use lib.ListN.{length, set}
+use lib.Seq.{getD-set-same, getD-set-other}
+use Rattle.turn.specs.declared.Worker.{Worker}
+use Rattle.turn.specs.Effects.{Effect, effectOn}
+use Rattle.turn.proofs.Effects.{Aimed, Moves, Swapper, Went}
+use Rattle.turn.proofs.Kept.{Idles}
+use Rattle.engine.specs.Board.{bucketOf}
+use Rattle.engine.specs.Calls.{recordIn, blank}
+use Rattle.history.specs.Trace.{Entry, changeOf}
+use Rattle.history.proofs.Lawful.{committed, closed, changed, quiet-effect}
+use Rattle.history.proofs.Counts.{commitOf, closeOf}
+
+-- the mark word of each bucket, the records, and the last ticket
+pub record View : Type 0 where
+  pub marks : ℕ → ℕ
+  pub records : List Worker
+  pub last : ℕ
+
+-- a worker's record
+abbrev pub worker : View → ℕ → Worker
+worker s i = recordIn (s .records) i
+
+-- ---- numbers that a record counts for
+
+-- 1 for an insert, which has a ticket and may commit
+abbrev pub inserting : Worker → ℕ
+inserting w = cond (eqb (w .kind) 2) 1 0
+
+-- the changes that a call can still make: an insert two, or one when it holds a slot; a remove one
+abbrev pub left : Worker → ℕ
+left w = cond (eqb (w .kind) 2) (cond (eqb (w .held) 3) 2 1) (cond (eqb (w .kind) 3) 1 0)
+
+-- an insert or a remove that has read the mark word in its round
+pub record Aware (w : Worker) : Type 0 where
+  pub other : w .kind ≡ 1 → ⊥
+  pub from : 2 ≤ w .place
+
+-- as one is whose turn is a swap
+pub swapper-aware : (w : Worker) → Swapper w → Aware w
+swapper-aware w swapper = record { other = swapper .other; from = swapper .from }
+
+-- ---- what can happen
+
+-- an accepted start: a worker's record becomes v
+pub record Starts (s : View) (v : Worker) (t : View) : Type 0 where
+  pub who : ℕ
+  pub within : who < length (s .records)
+  pub records : t .records ≡ set (s .records) who v
+  pub marks : (c : ℕ) → t .marks c ≡ s .marks c
+  -- it holds nothing, has read nothing and aims at nothing
+  pub held : v .held ≡ 3
+  pub unaware : Aware v → ⊥
+  pub aimed : Aimed v
+  -- an insert's ticket is above the last one, and becomes it
+  pub last : s .last + inserting v ≤ t .last
+  pub fits : s .last < 2 ^ 32 → t .last < 2 ^ 32
+
+-- a turn that is done, on a board of n buckets: the worker's record becomes v, and the mark word of its bucket what the effect makes of it
+pub record Acts (n : ℕ) (s : View) (e : Entry) (v : Worker) (t : View) : Type 0 where
+  pub effect : Effect
+  pub within : e .worker < length (s .records)
+  pub records : t .records ≡ set (s .records) (e .worker) v
+  pub last : t .last ≡ s .last
+  pub bucket : e .bucket ≡ bucketOf (worker s (e .worker) .key) n
+  pub place : e .place ≡ worker s (e .worker) .place
+  -- what the entry counts for is what the effect does
+  pub commits : commitOf e ≡ committed effect
+  pub closes : closeOf e ≡ closed effect
+  pub changes : changeOf e ≡ changed effect
+  pub here : t .marks (e .bucket) ≡ effectOn effect (s .marks (e .bucket))
+  pub there : (c : ℕ) → (c ≡ e .bucket → ⊥) → t .marks c ≡ s .marks c
+  pub moves : Moves (s .marks (e .bucket)) (worker s (e .worker)) effect v
+  pub went : Went (s .marks (e .bucket)) (worker s (e .worker)) v (e .report .action)
+  pub aims : Aimed (worker s (e .worker)) → Aimed v
+  pub idles : Idles (e .report .progress) v
+
+-- one after another: these entries, and calls that may make so many changes
+pub data Walk (n : ℕ) : View → List Entry → ℕ → View → Type 0 where
+  stays : {s : View} → Walk n s [] 0 s
+  starts : {s t u : View} {v : Worker} {es : List Entry} {k : ℕ} → Starts s v t → Walk n t es k u → Walk n s es (left v + k) u
+  acts : {s t u : View} {e : Entry} {v : Worker} {es : List Entry} {k : ℕ} → Acts n s e v t → Walk n t es k u → Walk n s (e ∷ es) k u
+
+-- ---- the mark word of each bucket then
+
+-- a turn that changed nothing leaves them all
+pub quiet-marks : {n : ℕ} {s : View} {e : Entry} {v : Worker} {t : View} → Acts n s e v t → changeOf e ≡ 0 → (c : ℕ) → t .marks c ≡ s .marks c
+quiet-marks {n} {s} {e} {v} {t} act quiet c = by (ℕ-discrete c (e .bucket))
+  where
+    by : Dec (c ≡ e .bucket) → t .marks c ≡ s .marks c
+    by (yes is) = rw is (act .here ∙ quiet-effect (act .effect) (s .marks (e .bucket)) (sym (act .changes) ∙ quiet))
+    by (no other) = act .there c other
+
+-- ---- the record of each worker then
+
+module _ (s t : View) (i : ℕ) (v : Worker) (records : t .records ≡ set (s .records) i v) where
+  -- the worker's own
+  pub new-record : i < length (s .records) → worker t i ≡ v
+  new-record within = rw records (getD-set-same (s .records) i v blank within)
+
+  -- another's
+  pub old-record : (j : ℕ) → (j ≡ i → ⊥) → worker t j ≡ worker s j
+  old-record j other = rw records (getD-set-other (s .records) i j v blank other)
+
+  -- what holds of the new record and of the others holds of each
+  pub each-worker :
+      (P : ℕ → Worker → Type 0)
+      → i < length (s .records)
+      → P i v
+      → ((j : ℕ) → (j ≡ i → ⊥) → P j (worker s j))
+      → (j : ℕ)
+      → P j (worker t j)
+  each-worker P within mine others j = by j (ℕ-discrete j i)
+    where
+      by : (j : ℕ) → Dec (j ≡ i) → P j (worker t j)
+      by j (yes is) = rw (is, new-record within) mine
+      by j (no other) = rw (old-record j other) (others j other)

@@ -1,0 +1,97 @@
+-- Every call and every history is a walk: accepted starts and turns done, one after another. Assumes nothing.
+use Prim.Native.Nat.{ℕ, _+_, _*_}
+use mathlib.Core.Bool.{Bool, true, false, cond}
+use mathlib.Core.List.{List, [], _∷_, _++_, map}
+use mathlib.Core.Path.{_≡_, refl, sym, ap, subst, _∙_}
+use native.Mathlib.Omega.{arith}
+use lib.Dec.{eqb}
+use lib.ListN.{take}
+use Rattle.engine.specs.declared.Started.{Started}
+use Rattle.history.specs.Trace.{Entry}
+use Rattle.history.specs.History.{State, Opening, Call, look, insert, remove, turn, run, show, count, opened, lookBy, insertBy, removeBy, runOf}
+use Rattle.history.specs.History.{after, entries, stateFrom, traceFrom, sumFrom, begun, isStart, state, trace, inserts, removes}
+use Rattle.history.proofs.Runs.{run-state, run-trace}
+use Rattle.history.proofs.View.{View, Walk, stays, starts, acts}
+use Rattle.history.proofs.States.{view, recount}
+use Rattle.history.proofs.Starting.{look-fresh, insert-fresh, remove-fresh, start-walk, start-floor}
+use Rattle.history.proofs.Acting.{turn-walk}
+use Rattle.history.proofs.Opened.{opened-is}
+
+-- a walk after a walk is one, and their changes add up
+walk-append :
+    {n : ℕ} {s t u : View} {es fs : List Entry} {i j : ℕ} → Walk n s es i t → Walk n t fs j u → Walk n s (es ++ fs) (i + j) u
+walk-append stays rest = recount _ _ (omega arith) rest
+walk-append (starts start walk) rest = recount _ _ (omega arith) (starts start (walk-append walk rest))
+walk-append (acts act walk) rest = acts act (walk-append walk rest)
+
+-- ---- one call
+
+-- no call changes the number of buckets
+call-floor : (s : State) (c : Call) → after s c .floor .buckets ≡ s .floor .buckets
+call-floor s (look i lot) = start-floor s i _ _ _ refl
+call-floor s (insert i lot t) = start-floor s i _ _ _ refl
+call-floor s (remove i lot) = start-floor s i _ _ _ refl
+call-floor s (turn i) = refl
+call-floor s (run turns) = refl
+call-floor s (show lot) = refl
+call-floor s count = refl
+
+-- 2I + R grows by what a start of this kind may change, if it is accepted
+module _ (kind changes : ℕ) where
+  abbrev Paid : ℕ → ℕ → Type 0
+  Paid one k = changes * one ≡ 2 * cond (eqb k 2) 1 0 + cond (eqb k 3) 1 0
+
+  counted : Paid 1 kind → Paid 0 0 → (x : Started) → Paid (begun 1 x) (begun kind x)
+  counted some none x = by (eqb (x .refusal) 0)
+    where
+      by : (t : Bool) → Paid (cond t 1 0) (cond t kind 0)
+      by true = some
+      by false = none
+
+module _ (n : ℕ) where
+  turn-at : (s : State) (i : ℕ) → s .floor .buckets ≡ n → Walk n (view s) (entries s (turn i)) 0 (view (after s (turn i)))
+  turn-at s i is = subst (λ (n : ℕ). Walk n (view s) (entries s (turn i)) 0 (view (after s (turn i)))) is (turn-walk s i)
+
+  -- turns one by one
+  turns-walk :
+      (s : State) (turns : List ℕ)
+      → s .floor .buckets ≡ n
+      → Walk n (view s) (traceFrom s (map turn turns)) 0 (view (stateFrom s (map turn turns)))
+  unfolding traceFrom stateFrom
+  turns-walk s [] is = stays
+  turns-walk s (i ∷ turns) is = walk-append (turn-at s i is) (turns-walk (after s (turn i)) turns is)
+
+  run-walk : (s : State) (turns : List ℕ) → s .floor .buckets ≡ n → Walk n (view s) (entries s (run turns)) 0 (view (after s (run turns)))
+  run-walk s turns is =
+      subst (λ (t : State). Walk n (view s) (entries s (run turns)) 0 (view t)) (sym (run-state s turns))
+      (rw (run-trace s turns) (turns-walk s (take (runOf s turns .handed .totals .turns) turns) is))
+
+  -- a call is a walk, with two changes for an insert and one for a remove
+  call-walk :
+      (s : State) (c : Call) → s .floor .buckets ≡ n → Walk n (view s) (entries s c) (2 * isStart 2 s c + isStart 3 s c) (view (after s c))
+  call-walk s (look i lot) is = recount _ _ (counted 1 0 refl refl (lookBy s i lot)) (start-walk s i (look-fresh (s .floor) lot) n)
+  call-walk s (insert i lot t) is =
+      recount _ _ (counted 2 2 refl refl (insertBy s i lot t)) (start-walk s i (insert-fresh (s .floor) lot (t .number) (t .fits)) n)
+  call-walk s (remove i lot) is = recount _ _ (counted 3 1 refl refl (removeBy s i lot)) (start-walk s i (remove-fresh (s .floor) lot) n)
+  call-walk s (turn i) is = turn-at s i is
+  call-walk s (run turns) is = run-walk s turns is
+  call-walk s (show lot) is = stays
+  call-walk s count is = stays
+
+  -- ---- calls
+
+  -- calls one after another are a walk
+  calls-walk :
+      (s : State) (cs : List Call)
+      → s .floor .buckets ≡ n
+      → Walk n (view s) (traceFrom s cs) (2 * sumFrom (isStart 2) s cs + sumFrom (isStart 3) s cs) (view (stateFrom s cs))
+  unfolding traceFrom stateFrom sumFrom
+  calls-walk s [] is = stays
+  calls-walk s (c ∷ cs) is =
+      recount _ _ (omega arith) (walk-append (call-walk s c is) (calls-walk (after s c) cs (call-floor s c ∙ is)))
+
+-- and so is every history
+pub history-walk :
+    (o : Opening) (calls : List Call)
+    → Walk (o .plan .buckets) (view (opened o)) (trace o calls) (2 * inserts o calls + removes o calls) (view (state o calls))
+history-walk o calls = calls-walk (o .plan .buckets) (opened o) calls (ap (λ (s : State). s .floor .buckets) (opened-is o))

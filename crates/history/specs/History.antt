@@ -1,0 +1,221 @@
+-- What "an opened board" means: "that board, records and floor come from one opening and have since gone only through the engine, each
+-- call taking what the one before left". A history is that opening and any list of calls, accepted or refused. Quotations are
+-- document 01's; what each call does is said in the engine's Calls, and nowhere else.
+use Prim.Native.Nat.{ℕ, _+_, _-_, _*_, _^_, _<_}
+use mathlib.Core.Bool.{cond}
+use mathlib.Core.List.{List, [], _∷_, _++_}
+use mathlib.Core.Path.{_≡_}
+use lib.Dec.{eqb}
+use lib.ListN.{length, set}
+use Rattle.turn.specs.declared.Worker.{Worker}
+use Rattle.turn.specs.declared.Answer.{Answer}
+use Rattle.turn.specs.declared.Answer.the-variants.{Refused, Done}
+use Rattle.turn.specs.declared.Turned.{Turned}
+use Rattle.turn.specs.Turn.{After}
+use Rattle.engine.specs.declared.Floor.{Floor}
+use Rattle.engine.specs.declared.Plan.{Plan}
+use Rattle.engine.specs.declared.Seat.{Seat}
+use Rattle.engine.specs.declared.Opened.{Opened}
+use Rattle.engine.specs.declared.Started.{Started}
+use Rattle.engine.specs.declared.Ran.{Ran}
+use Rattle.engine.specs.Board.{bucketOf}
+use Rattle.engine.specs.Refusals.{openNumber, runNumber}
+use Rattle.engine.specs.Calls.{planned, openCall, lookCall, insertCall, removeCall, turnCall, runCall, recordIn, seatIn}
+use Rattle.history.specs.Trace.{Entry}
+
+-- ---- the state, and the opening that it comes from
+
+-- board, floor and records, as one call leaves them and the next one takes them
+pub record State : Type 0 where
+  pub board : List ℕ
+  pub floor : Floor
+  pub records : List Worker
+
+-- a worker's record
+abbrev pub recordOf : State → ℕ → Worker
+recordOf s i = recordIn (s .records) i
+
+-- a worker's seat
+abbrev pub seatOf : State → ℕ → Seat
+seatOf s i = seatIn (s .floor) (s .records) i
+
+-- an opening that is accepted, with anything on the board and in the list that are lent to it: so W is 1 to 64, and N 1 to 256
+pub record Opening : Type 0 where
+  pub lent : State
+  pub plan : Plan
+  pub accepted : openNumber (planned plan) (lent .board) (length (lent .records)) ≡ 0
+  -- "Opening takes a 32-bit version"
+  pub version-fits : plan .version < 2 ^ 32
+
+-- W
+abbrev pub workersOf : Opening → ℕ
+workersOf o = o .plan .workers
+
+-- what an opening hands back, with the board that it leaves
+abbrev pub openedAs : After Opened → State
+openedAs x = record { board = x .words; floor = x .handed .floor; records = x .handed .records }
+
+-- the state that the opening leaves
+abbrev pub opened : Opening → State
+opened o = openedAs (openCall (o .lent .board) (o .lent .floor) (o .lent .records) (length (o .lent .records)) (o .plan))
+
+-- ---- calls
+
+-- "A ticket is a 32-bit number"
+pub record Ticket : Type 0 where
+  pub number : ℕ
+  pub fits : number < 2 ^ 32
+
+-- the calls of the library on an opened board, with any numbers
+pub data Call : Type 0 where
+  -- a worker starts a look for a lot
+  look : ℕ → ℕ → Call
+  -- a worker starts an insert of a lot, with a ticket
+  insert : ℕ → ℕ → Ticket → Call
+  -- a worker starts a remove of a lot
+  remove : ℕ → ℕ → Call
+  -- a worker has one turn
+  turn : ℕ → Call
+  -- workers have their turns in this order
+  run : List ℕ → Call
+  -- the bucket of a lot is shown
+  show : ℕ → Call
+  -- the lots on the board are counted
+  count : Call
+
+module _ (s : State) where
+  -- what the engine says of the start of a look
+  abbrev pub lookBy : ℕ → ℕ → Started
+  lookBy i lot = lookCall (s .board) (seatOf s i) (recordOf s i) lot
+
+  -- of an insert
+  abbrev pub insertBy : ℕ → ℕ → Ticket → Started
+  insertBy i lot t = insertCall (s .board) (seatOf s i) (recordOf s i) (record { lot = lot; ticket = t .number })
+
+  -- of a remove
+  abbrev pub removeBy : ℕ → ℕ → Started
+  removeBy i lot = removeCall (s .board) (seatOf s i) (recordOf s i) lot
+
+  -- of one turn
+  abbrev pub turnBy : ℕ → After Turned
+  turnBy i = turnCall (s .board) (seatOf s i) (recordOf s i)
+
+  -- of a run
+  abbrev pub runOf : List ℕ → After Ran
+  runOf turns = runCall (s .board) (s .floor) (s .records) (length (s .records)) turns
+
+-- ---- what a call leaves
+
+-- a start leaves the board; the floor and the worker's record are what it hands back
+abbrev pub startedAs : State → ℕ → Started → State
+startedAs s i x = record { board = s .board; floor = x .floor; records = set (s .records) i (x .worker) }
+
+-- a turn leaves the floor; the board and the worker's record are what it leaves and hands back
+abbrev pub turnedAs : State → ℕ → After Turned → State
+turnedAs s i x = record { board = x .words; floor = s .floor; records = set (s .records) i (x .handed .worker) }
+
+-- so does a run, with all records
+abbrev pub ranAs : State → After Ran → State
+ranAs s x = record { board = x .words; floor = s .floor; records = x .handed .records }
+
+-- the state after a call; a show and a count change nothing
+abbrev pub after : State → Call → State
+after s (look i lot) = startedAs s i (lookBy s i lot)
+after s (insert i lot t) = startedAs s i (insertBy s i lot t)
+after s (remove i lot) = startedAs s i (removeBy s i lot)
+after s (turn i) = turnedAs s i (turnBy s i)
+after s (run turns) = ranAs s (runOf s turns)
+after s (show lot) = s
+after s count = s
+
+-- ---- the turns that a call does
+
+-- the entry of a turn that is done; one that is refused has none
+abbrev pub entryOf : State → ℕ → Answer → List Entry
+entryOf s i (Refused number) = []
+entryOf s i (Done report) =
+    record { worker = i; bucket = bucketOf (recordOf s i .key) (s .floor .buckets); place = recordOf s i .place; report = report } ∷ []
+
+-- the entry of one turn
+abbrev pub turnEntry : State → ℕ → List Entry
+turnEntry s i = entryOf s i (turnBy s i .handed .answer)
+
+-- the first turn's entry, and then the rest's; "stops before the first refused turn", which has none
+abbrev pub andThen : List Entry → List Entry → List Entry
+andThen [] rest = []
+andThen (e ∷ es) rest = e ∷ rest
+
+-- the entries of turns one after another, each on what the one before left
+unfoldable pub turnEntries : State → List ℕ → List Entry
+turnEntries s [] = []
+turnEntries s (i ∷ turns) = andThen (turnEntry s i) (turnEntries (turnedAs s i (turnBy s i)) turns)
+
+-- the entries of a run; one that is refused as a whole, by 1 or 9, has none
+abbrev pub runEntries : State → List ℕ → List Entry
+runEntries s turns = cond (eqb (runNumber (s .floor) (s .board) (length (s .records)) turns) 0) (turnEntries s turns) []
+
+-- the entries of a call
+abbrev pub entries : State → Call → List Entry
+entries s (look i lot) = []
+entries s (insert i lot t) = []
+entries s (remove i lot) = []
+entries s (turn i) = turnEntry s i
+entries s (run turns) = runEntries s turns
+entries s (show lot) = []
+entries s count = []
+
+-- ---- histories
+
+-- the state after calls, from a state
+unfoldable pub stateFrom : State → List Call → State
+stateFrom s [] = s
+stateFrom s (c ∷ cs) = stateFrom (after s c) cs
+
+-- their entries
+unfoldable pub traceFrom : State → List Call → List Entry
+traceFrom s [] = []
+traceFrom s (c ∷ cs) = entries s c ++ traceFrom (after s c) cs
+
+-- a number for each call, from the state that it takes, added up
+unfoldable pub sumFrom : (State → Call → ℕ) → State → List Call → ℕ
+sumFrom f s [] = 0
+sumFrom f s (c ∷ cs) = f s c + sumFrom f (after s c) cs
+
+-- the kind of call that a start begins, if it is accepted
+abbrev pub begun : ℕ → Started → ℕ
+begun kind x = cond (eqb (x .refusal) 0) kind 0
+
+-- "kind (0 idle, 1 look, 2 insert, 3 remove)" of the call that a call of the library begins; 0 where it begins none
+abbrev pub begins : State → Call → ℕ
+begins s (look i lot) = begun 1 (lookBy s i lot)
+begins s (insert i lot t) = begun 2 (insertBy s i lot t)
+begins s (remove i lot) = begun 3 (removeBy s i lot)
+begins s (turn i) = 0
+begins s (run turns) = 0
+begins s (show lot) = 0
+begins s count = 0
+
+-- 1 for a call of the library that begins one of this kind
+abbrev pub isStart : ℕ → State → Call → ℕ
+isStart kind s c = cond (eqb (begins s c) kind) 1 0
+
+module _ (o : Opening) (calls : List Call) where
+  -- the state that an opening and these calls leave
+  abbrev pub state : State
+  state = stateFrom (opened o) calls
+
+  -- the turns that were done
+  abbrev pub trace : List Entry
+  trace = traceFrom (opened o) calls
+
+  -- I, the inserts that were accepted
+  abbrev pub inserts : ℕ
+  inserts = sumFrom (isStart 2) (opened o) calls
+
+  -- R, the removes that were accepted
+  abbrev pub removes : ℕ
+  removes = sumFrom (isStart 3) (opened o) calls
+
+  -- (W - 1)(2I + R), which demand 3 allows
+  abbrev pub mostLost : ℕ
+  mostLost = (workersOf o - 1) * (2 * inserts + removes)

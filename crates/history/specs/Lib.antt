@@ -1,0 +1,4 @@
+pub mod History
+pub mod Moment
+pub mod Trace
+pub mod Trials

@@ -1,0 +1,42 @@
+-- The moment of a turn: the last turn of that worker that read its bucket's mark word whole or changed it. A trace is cut there, and at
+-- the turn itself, into what came before, the moment, what came between, the turn, and what came after.
+use mathlib.Core.List.{List}
+use mathlib.Core.Logic.{_⊎_}
+use mathlib.Core.Path.{_≡_}
+use Rattle.history.specs.Trace.{Entry, Changes, ReadsWhole, Commits, Closes, Continues, Cut, None}
+
+-- an entry of the same worker
+abbrev pub Own : Entry → Entry → Type 0
+Own y e = e .worker ≡ y .worker
+
+-- an entry of another worker, in the same bucket
+abbrev pub AnothersIn : Entry → Entry → Type 0
+AnothersIn y e = (Own y e → ⊥) × (e .bucket ≡ y .bucket)
+
+-- a turn that read the mark word whole or changed it
+abbrev pub Sees : Entry → Type 0
+Sees e = ReadsWhole e ⊎ Changes e
+
+-- x is the moment of y, with these entries between them: no later turn of that worker is one
+pub record IsMoment (x : Entry) (between : List Entry) (y : Entry) : Type 0 where
+  pub own : Own y x
+  pub sees : Sees x
+  pub latest : None (λ e. Own y e × Sees e) between
+
+-- x, between and y belong to one call of their worker, in one bucket: x does not end its call, and neither does a turn of that worker between
+pub record OneCall (x : Entry) (between : List Entry) (y : Entry) : Type 0 where
+  pub bucket : x .bucket ≡ y .bucket
+  pub first : Continues x
+  pub rest : None (λ e. Own y e × (Continues e → ⊥)) between
+
+-- what came before y can be cut at the moment of y, and that is of the same call
+abbrev pub HasMoment : List Entry → Entry → Type 0
+HasMoment before y = Cut (λ x between. IsMoment x between y × OneCall x between y) before
+
+-- an entry of another worker that changed that bucket's mark word
+abbrev pub ChangedByAnother : Entry → Entry → Type 0
+ChangedByAnother y e = AnothersIn y e × Changes e
+
+-- an entry of another worker that committed or closed in that bucket
+abbrev pub CommittedOrClosedByAnother : Entry → Entry → Type 0
+CommittedOrClosedByAnother y e = AnothersIn y e × (Commits e ⊎ Closes e)

@@ -1,0 +1,99 @@
+-- The trace: an entry for each turn done, in the order in which they were done, and what document 01 calls such a turn. Everything is
+-- told from the entry alone: whose turn it was, where, and what it reported. Quotations are document 01's.
+use Prim.Native.Nat.{ℕ, _+_}
+use mathlib.Core.Bool.{cond}
+use mathlib.Core.List.{List, [], _∷_, _++_}
+use mathlib.Core.Logic.{_⊎_}
+use mathlib.Core.Path.{_≡_}
+use Rattle.turn.specs.declared.Action.the-variants.{Store, Won, Lost}
+use Rattle.turn.specs.declared.Progress.the-variants.{GoesOn}
+use Rattle.turn.specs.declared.Report.{Report}
+use Rattle.engine.specs.Calls.{changes, losses}
+
+-- a turn that was done: the worker, the bucket of its lot, its place before the turn, and the turn's report
+pub record Entry : Type 0 where
+  pub worker : ℕ
+  pub bucket : ℕ
+  pub place : ℕ
+  pub report : Report
+
+-- ---- what an entry is
+
+-- a swap that won
+abbrev pub Wins : Entry → Type 0
+Wins e = e .report .action ≡ Won
+
+-- a swap that lost
+abbrev pub Loses : Entry → Type 0
+Loses e = e .report .action ≡ Lost
+
+-- a swap, won or lost
+abbrev pub Swaps : Entry → Type 0
+Swaps e = Wins e ⊎ Loses e
+
+-- a commit is a won swap of place 9
+abbrev pub Commits : Entry → Type 0
+Commits e = (e .place ≡ 9) × Wins e
+
+-- a close is a won swap of place 13
+abbrev pub Closes : Entry → Type 0
+Closes e = (e .place ≡ 13) × Wins e
+
+-- the store of place 10, by which an insert gives its slot back
+abbrev pub Frees : Entry → Type 0
+Frees e = (e .place ≡ 10) × (e .report .action ≡ Store)
+
+-- a claim is a won swap of place 6
+abbrev pub Claims : Entry → Type 0
+Claims e = (e .place ≡ 6) × Wins e
+
+-- "A change is a won swap or the store of place 10."
+abbrev pub Changes : Entry → Type 0
+Changes e = Wins e ⊎ Frees e
+
+-- "read mark word into word" is place 1; no other place reads it whole
+abbrev pub ReadsWhole : Entry → Type 0
+ReadsWhole e = e .place ≡ 1
+
+-- "the call goes on"
+abbrev pub Continues : Entry → Type 0
+Continues e = e .report .progress ≡ GoesOn
+
+-- ---- entries of a trace
+
+-- a trace is cut at an entry, so that P holds of the entry and of what comes after it
+pub record Cut (P : Entry → List Entry → Type 0) (trace : List Entry) : Type 0 where
+  pub older : List Entry
+  pub entry : Entry
+  pub newer : List Entry
+  pub cut : trace ≡ older ++ (entry ∷ newer)
+  pub holds : P entry newer
+
+-- an entry of which P holds stands somewhere in a trace
+abbrev pub Some : (Entry → Type 0) → List Entry → Type 0
+Some P trace = Cut (λ e newer. P e) trace
+
+-- no entry of which P holds does
+abbrev pub None : (Entry → Type 0) → List Entry → Type 0
+None P trace = Some P trace → ⊥
+
+-- a number for each entry, added up
+unfoldable pub total : (Entry → ℕ) → List Entry → ℕ
+total count [] = 0
+total count (e ∷ es) = count e + total count es
+
+-- 1 for a lost swap
+abbrev pub lossOf : Entry → ℕ
+lossOf e = losses (e .report .action)
+
+-- 1 for a change
+abbrev pub changeOf : Entry → ℕ
+changeOf e = changes (e .place) (e .report .action)
+
+-- 1 for a full round
+abbrev pub fullOf : Entry → ℕ
+fullOf e = cond (e .report .full) 1 0
+
+-- the lost swaps, counted from the reports
+abbrev pub lostSwaps : List Entry → ℕ
+lostSwaps trace = total lossOf trace
