@@ -14,7 +14,7 @@ use Rattle.turn.proofs.Lands.{elsewhere}
 use Rattle.engine.specs.Calls.{blank}
 use Rattle.history.specs.Trace.{total}
 use Rattle.history.specs.History.{State, Opening, opened}
-use Rattle.history.proofs.Sums.{sum, sum-none}
+use Rattle.history.proofs.Sums.{sum-none}
 use Rattle.history.proofs.View.{worker, inserting, left, Aware}
 use Rattle.history.proofs.Held.{Holds, Kept}
 use Rattle.history.proofs.Versions.{Tells}
@@ -69,7 +69,7 @@ module _ (o : Opening) where
       rw mark (empty-tells (o .plan .version) b (o .version-fits))
 
   -- no record counts for anything
-  counts-none : (f : Worker → ℕ) → f idle ≡ 0 → sum f (opened o .records) ≡ 0
+  counts-none : (f : Worker → ℕ) → f idle ≡ 0 → total f (opened o .records) ≡ 0
   counts-none f none = rw (opened-is o) (sum-none f idle none (length (o .lent .records)))
 
   -- an opened board is good, with nothing behind it

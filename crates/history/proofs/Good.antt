@@ -10,7 +10,7 @@ use Rattle.turn.specs.declared.Worker.{Worker}
 use Rattle.turn.specs.Effects.{Effect}
 use Rattle.engine.specs.Calls.{losses}
 use Rattle.history.specs.Trace.{Entry, total, lostSwaps, changeOf}
-use Rattle.history.proofs.Sums.{sum, sum-set, sum-others}
+use Rattle.history.proofs.Sums.{sum-set, sum-others}
 use Rattle.history.proofs.View.{View, worker, inserting, left, Starts, Acts, quiet-marks, Walk, stays, starts, acts}
 use Rattle.history.proofs.Lawful.{changed, committed, changed-le}
 use Rattle.history.proofs.Counts.{commitOf, lost-quiet, onto}
@@ -25,12 +25,12 @@ pub record Good (workers n version : ℕ) (s : View) (past : List Entry) (k : �
   pub kept : Kept n s
   pub tells : (b : ℕ) → b < n → Tells version b past (s .marks b)
   -- each commit and each insert under way has a ticket of its own, and there are fewer than 2^32
-  pub tickets : total commitOf past + sum inserting (s .records) ≤ s .last
+  pub tickets : total commitOf past + total inserting (s .records) ≤ s .last
   pub fits : s .last < 2 ^ 32
   -- a change makes each of the other workers stale at most, and only a stale worker loses
-  pub charge : lostSwaps past + sum (stale n (s .marks)) (s .records) ≤ (workers - 1) * total changeOf past
+  pub charge : lostSwaps past + total (stale n (s .marks)) (s .records) ≤ (workers - 1) * total changeOf past
   -- a change is one that the call's start has paid for
-  pub budget : total changeOf past + sum left (s .records) ≤ k
+  pub budget : total changeOf past + total left (s .records) ≤ k
 
 module _ (workers n version : ℕ) where
   module _
@@ -43,7 +43,7 @@ module _ (workers n version : ℕ) where
     effect = act .effect
 
     -- what the turn pays comes from what the worker's record counted for
-    spends : (f : Worker → ℕ) (c : ℕ) → c + f v ≤ f w → c + sum f (t .records) ≤ sum f (s .records)
+    spends : (f : Worker → ℕ) (c : ℕ) → c + f v ≤ f w → c + total f (t .records) ≤ total f (s .records)
     spends f c pays =
         let more = sum-set f f c 0 v (λ w. omega arith) (s .records) (e .worker) (act .within) (omega (arith, pays)) in
         rw (act .records) (omega (arith, more))
@@ -54,7 +54,7 @@ module _ (workers n version : ℕ) where
     -- where the turn changed nothing, and where it changed the mark word
     charged :
         Dec (changeOf e ≡ 0)
-        → lostSwaps (e ∷ past) + sum (stale n (t .marks)) (t .records) ≤ (workers - 1) * total changeOf (e ∷ past)
+        → lostSwaps (e ∷ past) + total (stale n (t .marks)) (t .records) ≤ (workers - 1) * total changeOf (e ∷ past)
     unfolding total
     charged (yes quiet) =
         rw (act .records, quiet)
@@ -96,7 +96,7 @@ module _ (workers n version : ℕ) where
 
   module _ (s : View) (v : Worker) (t : View) (start : Starts s v t) where
     -- what the records count for grows by no more than what the new one counts for
-    brings : (f g : Worker → ℕ) → ((w : Worker) → g w ≤ f w) → sum g (t .records) ≤ sum f (s .records) + g v
+    brings : (f g : Worker → ℕ) → ((w : Worker) → g w ≤ f w) → total g (t .records) ≤ total f (s .records) + g v
     brings f g less =
         let more = sum-set f g 0 (g v) v less (s .records) (start .who) (start .within) (omega arith) in
         rw (start .records) (omega (arith, more))

@@ -6,21 +6,17 @@ use native.Mathlib.Omega.{arith}
 use lib.ListN.{length, set, replicate}
 use Rattle.turn.specs.declared.Worker.{Worker}
 use Rattle.engine.specs.Calls.{recordIn}
-
--- a number for each record, added up
-unfoldable pub sum : (Worker → ℕ) → List Worker → ℕ
-sum f [] = 0
-sum f (w ∷ ws) = f w + sum f ws
+use Rattle.history.specs.Trace.{total}
 
 -- no number is larger
-sum-le : (f g : Worker → ℕ) → ((w : Worker) → g w ≤ f w) → (ws : List Worker) → sum g ws ≤ sum f ws
-unfolding sum
+sum-le : (f g : Worker → ℕ) → ((w : Worker) → g w ≤ f w) → (ws : List Worker) → total g ws ≤ total f ws
+unfolding total
 sum-le f g less [] = omega arith
 sum-le f g less (w ∷ ws) = omega (arith, less w, sum-le f g less ws)
 
 -- no number is larger by more than one
-sum-ones : (f g : Worker → ℕ) → ((w : Worker) → g w ≤ f w + 1) → (ws : List Worker) → sum g ws ≤ sum f ws + length ws
-unfolding sum
+sum-ones : (f g : Worker → ℕ) → ((w : Worker) → g w ≤ f w + 1) → (ws : List Worker) → total g ws ≤ total f ws + length ws
+unfolding total
 sum-ones f g less [] = omega arith
 sum-ones f g less (w ∷ ws) = omega (arith, less w, sum-ones f g less ws)
 
@@ -31,8 +27,8 @@ pub sum-set :
     → (ws : List Worker) (i : ℕ)
     → i < length ws
     → c + g v ≤ f (recordIn ws i) + d
-    → c + sum g (set ws i v) ≤ sum f ws + d
-unfolding sum
+    → c + total g (set ws i v) ≤ total f ws + d
+unfolding total
 sum-set f g c d v less [] i within pays = absurd (omega arith)
 sum-set f g c d v less (w ∷ ws) zero within pays = omega (arith, pays, sum-le f g less ws)
 sum-set f g c d v less (w ∷ ws) (suc i) within pays = omega (arith, less w, sum-set f g c d v less ws i (omega arith) pays)
@@ -44,14 +40,14 @@ pub sum-others :
     → g v ≡ 0
     → (ws : List Worker) (i : ℕ)
     → i < length ws
-    → sum g (set ws i v) + 1 ≤ sum f ws + length ws
-unfolding sum
+    → total g (set ws i v) + 1 ≤ total f ws + length ws
+unfolding total
 sum-others f g v less none [] i within = absurd (omega arith)
 sum-others f g v less none (w ∷ ws) zero within = omega (arith, sum-ones f g less ws)
 sum-others f g v less none (w ∷ ws) (suc i) within = omega (arith, less w, sum-others f g v less none ws i (omega arith))
 
 -- records that all count for nothing
-pub sum-none : (f : Worker → ℕ) (w : Worker) → f w ≡ 0 → (n : ℕ) → sum f (replicate n w) ≡ 0
-unfolding sum
+pub sum-none : (f : Worker → ℕ) (w : Worker) → f w ≡ 0 → (n : ℕ) → total f (replicate n w) ≡ 0
+unfolding total
 sum-none f w none zero = refl
 sum-none f w none (suc n) = omega (arith, sum-none f w none n)

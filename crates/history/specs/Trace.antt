@@ -77,8 +77,8 @@ Some P trace = Cut (λ e newer. P e) trace
 abbrev pub None : (Entry → Type 0) → List Entry → Type 0
 None P trace = Some P trace → ⊥
 
--- a number for each entry, added up
-unfoldable pub total : (Entry → ℕ) → List Entry → ℕ
+-- a number for each entry of a list, added up
+unfoldable pub total : {A : Type 0} → (A → ℕ) → List A → ℕ
 total count [] = 0
 total count (e ∷ es) = count e + total count es
 
