@@ -3,6 +3,7 @@ pub mod Choices
 pub mod Counts
 pub mod Fields
 pub mod FirstEmpty
+mod Masks
 pub mod OneAnswer
 pub mod Slots
 pub mod WellFormed

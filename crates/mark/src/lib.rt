@@ -21,7 +21,8 @@ fn mark_shift(slot: u8) -> u32
     32 + 8 * (slot as u32)
 }
 
-pub fn mark_of(word: u64, slot: u8) -> u8
+#[no_mangle]
+pub extern "C" fn mark_of(word: u64, slot: u8) -> u8
     ensures { λ r. ⌜ r ≡ markOf word slot ⌝ }
 {
     if slot >= NO_SLOT {
@@ -40,7 +41,8 @@ pub fn with_mark(word: u64, slot: u8, mark: u8) -> u64
     (word & !(255u64 << shift)) | ((mark as u64) << shift)
 }
 
-pub fn version_of(word: u64) -> u32
+#[no_mangle]
+pub extern "C" fn version_of(word: u64) -> u32
     ensures { λ r. ⌜ r ≡ version word ⌝ }
 {
     (word & 4294967295) as u32
@@ -80,14 +82,7 @@ pub fn first_empty(word: u64) -> u8
 pub fn is_well_formed(word: u64) -> bool
     ensures { λ r. ⌜ r ≡ wellFormed word ⌝ }
 {
-    if mark_of(word, 0) > BEING_INSERTED {
-        return false;
-    }
-    if mark_of(word, 1) > BEING_INSERTED {
-        return false;
-    }
-    if mark_of(word, 2) > BEING_INSERTED {
-        return false;
-    }
-    word >> 56 == 0
+    let above = word >> 32;
+    // A mark over 2 has a bit above its lowest two, or gets one when 1 is added; byte 7 has no bit at all.
+    ((above | (above + 0x0001_0101)) & 0xFFFC_FCFC) == 0
 }
