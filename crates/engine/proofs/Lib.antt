@@ -6,7 +6,6 @@ pub mod Keeps
 pub mod Numbers
 pub mod Parts
 pub mod Refused
-pub mod Runs
 pub mod Sizes
 pub mod Stops
 pub mod Turns

@@ -7,7 +7,7 @@ use borrow.Author.Tests.{eqb-true}
 use Rattle.mark.proofs.Choices.{by-cases}
 use Rattle.turn.specs.declared.Worker.{Worker}
 use Rattle.turn.specs.declared.Turned.{Turned}
-use Rattle.turn.specs.Turn.{after}
+use Rattle.turn.specs.Turn.{after, numberOf}
 use Rattle.turn.proofs.Numbers.{numberIn, number-told}
 use Rattle.engine.specs.declared.Floor.{Floor}
 use Rattle.engine.specs.declared.Seat.{Seat}
@@ -16,14 +16,19 @@ use Rattle.engine.specs.Refusals.{turnNumber, countNumber}
 use Rattle.engine.specs.Calls.{turned, turnCall, countCall, countedNumber}
 use Rattle.engine.specs.Promises.{TurnDone, CountDone}
 
+-- the number that a turn's answer tells
+pub turn-number :
+    (board : List ℕ) (s : Seat) (w : Worker)
+    → numberOf (turnCall board s w .handed .answer) ≡ turnNumber (s .floor) board (s .listed) (s .worker) w
+unfolding turnCall turned
+turn-number board s w = number-told (turnNumber (s .floor) board (s .listed) (s .worker) w) _ board w refl
+
 -- a turn
 pub turn-done :
     (board : List ℕ) (s : Seat) (w : Worker) (later : List ℕ) (r : Turned)
     → after later r ≡ turnCall board s w
     → TurnDone board s w later r
-unfolding turnCall turned
-turn-done board s w later r whole =
-    record { whole = whole; number = ap numberIn whole ∙ number-told (turnNumber (s .floor) board (s .listed) (s .worker) w) _ board w refl }
+turn-done board s w later r whole = record { whole = whole; number = ap numberIn whole ∙ turn-number board s w }
 
 -- a count
 pub count-done : (board : List ℕ) (f : Floor) (r : Counted) → r ≡ countCall board f → CountDone board f r

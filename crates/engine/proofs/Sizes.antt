@@ -1,9 +1,8 @@
 -- What the test of the sizes says when it lets a floor through. Assumes nothing.
 use Prim.Native.Nat.{ℕ}
 use mathlib.Core.Bool.{Bool, true, false, _||_, and-eq-true-iff}
-use mathlib.Core.Path.{_≡_, refl, _∙_}
+use mathlib.Core.Path.{_≡_, refl}
 use mathlib.Core.List.{List}
-use lib.ListN.{length}
 use borrow.Author.Tests.{eqb-true, leb-true, not-false}
 use Rattle.mark.proofs.Choices.{passes, not-both}
 use Rattle.engine.specs.declared.Floor.{Floor}
@@ -44,14 +43,3 @@ right-listed f board listed is = eqb-true _ _ (not-false _ (both-fail (wrongFloo
 pub shown-right : (f : Floor) (board : List ℕ) (lot : ℕ) → showNumber f board lot ≡ 0 → Right f board
 unfolding showNumber
 shown-right f board lot is = right f board (passes _ 0 _ is .0)
-
--- a board that keeps its length still fits its floor
-pub right-kept : (f : Floor) (board later : List ℕ) → Right f board → length later ≡ length board → Right f later
-right-kept f board later is long =
-    record {
-      some-worker = is .some-worker;
-      workers = is .workers;
-      some-bucket = is .some-bucket;
-      buckets = is .buckets;
-      words = long ∙ is .words;
-    }

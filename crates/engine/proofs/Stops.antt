@@ -1,20 +1,19 @@
 -- A run is its turns one after another, and stops before the first that is refused. Assumes nothing.
-use Prim.Native.Nat.{ℕ, _+_}
+use Prim.Native.Nat.{ℕ, _+_, _≤_}
 use mathlib.Core.Bool.{false}
 use mathlib.Core.Path.{_≡_, refl, sym, ap, _∙_}
 use mathlib.Core.List.{List, [], _∷_, _++_, append-nil}
 use native.Mathlib.Nat.{add-zero}
 use native.Mathlib.Omega.{arith}
-use lib.ListN.{length, getD, set}
+use lib.ListN.{length, getD, set, drop, drop-of-length-le}
 use borrow.Author.Tests.{ne-eqb}
 use Rattle.turn.specs.declared.Worker.{Worker}
 use Rattle.turn.specs.Places.{turn}
 use Rattle.turn.specs.Turn.{After}
 use Rattle.engine.specs.declared.Floor.{Floor}
 use Rattle.engine.specs.declared.Seat.{Seat}
-use Rattle.engine.specs.declared.Ran.{Ran}
 use Rattle.engine.specs.Refusals.{bucketFor, wrongSizes, eachNumber, turnNumber}
-use Rattle.engine.specs.Calls.{turnDone, turned, turnCall, standing, blank, tallied, runFrom}
+use Rattle.engine.specs.Calls.{Ran, turnDone, turned, turnCall, standing, blank, tallied, runFrom}
 
 -- the record of the worker whose turn it is
 abbrev pub mover : ℕ → After Ran → Worker
@@ -42,7 +41,13 @@ module _ (f : Floor) where
   AllDone [] s = Unit {0}
   AllDone (t ∷ ts) s = (numberAt t s ≡ 0) × AllDone ts (doneBy t s)
 
-  next-done : (t : ℕ) (ts : List ℕ) (s : After Ran) → numberAt t s ≡ 0 → runFrom f (t ∷ ts) s ≡ runFrom f ts (doneBy t s)
+  -- no turn is left
+  pub run-over : (ts : List ℕ) (i : ℕ) (s : After Ran) → length ts ≤ i → runFrom f (drop i ts) s ≡ s
+  unfolding runFrom
+  run-over ts i s past = rw (drop-of-length-le ts {i = i} past)
+
+  -- the next turn is done
+  pub next-done : (t : ℕ) (ts : List ℕ) (s : After Ran) → numberAt t s ≡ 0 → runFrom f (t ∷ ts) s ≡ runFrom f ts (doneBy t s)
   unfolding runFrom turned
   next-done t ts s none = rw none
 
@@ -51,7 +56,8 @@ module _ (f : Floor) where
   run-goes [] rest s all = refl
   run-goes (t ∷ ts) rest s all = next-done t (ts ++ rest) s (all .0) ∙ run-goes ts rest (doneBy t s) (all .1)
 
-  next-refused :
+  -- the next turn is refused
+  pub next-refused :
       (t : ℕ) (ts : List ℕ) (s : After Ran)
       → (numberAt t s ≡ 0 → ⊥)
       → runFrom f (t ∷ ts) s ≡ standing (s .words) (s .handed .records) (s .handed .totals) (numberAt t s)

@@ -6,13 +6,14 @@ use mathlib.Core.List.{List, _++_}
 use lib.Dec.{eqb}
 use lib.ListN.{take, drop}
 use Rattle.turn.specs.declared.Worker.{Worker}
+use Rattle.turn.specs.declared.Tried.{Tried}
 use Rattle.turn.specs.declared.Turned.{Turned}
-use Rattle.turn.specs.Turn.{After, after, refusing, doing, takeTurn, turnRefusal}
-use Rattle.turn.specs.Places.{turn}
+use Rattle.turn.specs.Turn.{After, after, refusing, refused, done, tryTurn, turnRefusal, answered}
+use Rattle.turn.specs.Places.{Step, turn}
 use Rattle.engine.specs.declared.Floor.{Floor}
 use Rattle.engine.specs.Board.{bucketOf, bucketAt, withBucket}
 use Rattle.engine.specs.Refusals.{bucketFor}
-use Rattle.engine.specs.Calls.{turned, turnDone}
+use Rattle.engine.specs.Calls.{tried, turned, turnDone}
 use Rattle.engine.proofs.Parts.{part-at, put-at, put-same}
 
 -- the number of the bucket of a worker's lot
@@ -20,7 +21,7 @@ abbrev pub own : Floor → Worker → ℕ
 own f w = bucketOf (w .key) (f .buckets)
 
 -- what a turn on a bucket comes to on the board
-abbrev pub onBoard : List ℕ → ℕ → After Turned → After Turned
+abbrev pub onBoard : List ℕ → ℕ → After Tried → After Tried
 onBoard board b o = after (withBucket board b (o .words)) (o .handed)
 
 module _ (f : Floor) (board : List ℕ) (w : Worker) where
@@ -33,22 +34,43 @@ module _ (f : Floor) (board : List ℕ) (w : Worker) where
 
   both :
       (t : Bool)
-      → onBoard board (own f w) (cond t (after (turn bucket w .bucket) (doing (turn bucket w))) (after bucket (refusing number w)))
-      ≡ cond t (turnDone f board w (turn bucket w)) (after board (refusing number w))
+      → onBoard board (own f w) (cond t (after (turn bucket w .bucket) (done (turn bucket w .stepped) (w .place))) (after bucket (refused number w)))
+      ≡ cond t (after (turnDone f board w (turn bucket w) .words) (done (turn bucket w .stepped) (w .place))) (after board (refused number w))
   both true = refl
-  both false = ap (λ (l : List ℕ). after l (refusing number w)) (put-same board (own f w))
+  both false = ap (λ (l : List ℕ). after l (refused number w)) (put-same board (own f w))
 
-  take-on-board : onBoard board (own f w) (takeTurn bucket w) ≡ turned number f board w
-  unfolding takeTurn turned
-  take-on-board = both (eqb number 0)
+  try-on-board : onBoard board (own f w) (tryTurn bucket w) ≡ tried number f board w
+  unfolding tryTurn tried
+  try-on-board = both (eqb number 0)
 
   -- the part is lent from the bucket's first word on, and comes back with what the turn left there
   pub turn-on :
-      (at : ℕ) (p : List ℕ) (r : Turned)
+      (at : ℕ) (p : List ℕ) (r : Tried)
       → at ≡ 8 * own f w
-      → after p r ≡ takeTurn (take (at + 8 - at) (drop at board)) w
-      → after (take at board ++ (p ++ drop (at + 8 - at) (drop at board))) r ≡ turned number f board w
+      → after p r ≡ tryTurn (take (at + 8 - at) (drop at board)) w
+      → after (take at board ++ (p ++ drop (at + 8 - at) (drop at board))) r ≡ tried number f board w
   turn-on at p r start e =
       ap (λ (l : List ℕ). after l r) (put-at board at (own f w) start p)
-      ∙ ap (onBoard board (own f w)) (e ∙ ap (λ (l : List ℕ). takeTurn l w) (part-at board at (own f w) start))
-      ∙ take-on-board
+      ∙ ap (onBoard board (own f w)) (e ∙ ap (λ (l : List ℕ). tryTurn l w) (part-at board at (own f w) start))
+      ∙ try-on-board
+
+-- a turn that was tried, with its answer
+abbrev pub answering : After Tried → After Turned
+answering x = after (x .words) (answered (x .handed))
+
+-- what was tried is the call's turn
+module _ (n : ℕ) (f : Floor) (board : List ℕ) (w : Worker) where
+  abbrev step : Step
+  step = turn (bucketFor f board (w .key)) w
+
+  either-way :
+      (t : Bool)
+      → eqb n 0 ≡ t
+      → answering (cond t (after (turnDone f board w step .words) (done (step .stepped) (w .place))) (after board (refused n w)))
+      ≡ cond t (turnDone f board w step) (after board (refusing n w))
+  either-way true is = refl
+  either-way false isnot = rw isnot
+
+  pub tried-is-turned : answering (tried n f board w) ≡ turned n f board w
+  unfolding tried turned
+  tried-is-turned = either-way (eqb n 0) refl

@@ -14,21 +14,27 @@ use Rattle.turn.specs.declared.Answer.the-variants.{Refused, Done}
 use Rattle.turn.specs.declared.Turned.{Turned}
 use Rattle.turn.specs.Worker.{idle, lookFor, insertOf, removeOf}
 use Rattle.turn.specs.Places.{Step, turn}
-use Rattle.turn.specs.Turn.{After, after, refusing, doing}
+use Rattle.turn.specs.declared.Tried.{Tried}
+use Rattle.turn.specs.Turn.{After, after, refusing, doing, refused, done}
 use Rattle.engine.specs.declared.Floor.{Floor}
 use Rattle.engine.specs.declared.Plan.{Plan}
 use Rattle.engine.specs.declared.Bid.{Bid}
 use Rattle.engine.specs.declared.Seat.{Seat}
-use Rattle.engine.specs.declared.Opened.{Opened}
+use Rattle.engine.specs.declared.Laid.{Laid}
 use Rattle.engine.specs.declared.Started.{Started}
 use Rattle.engine.specs.declared.Totals.{Totals}
-use Rattle.engine.specs.declared.Ran.{Ran}
 use Rattle.engine.specs.declared.Counted.{Counted}
 use Rattle.engine.specs.declared.Counted.the-variants.{Refusal, Lots}
 use Rattle.engine.specs.Board.{bucketOf, withBucket, openedBoard, lotsOn}
 use Rattle.engine.specs.Refusals.{spent, bucketFor, openNumber, startNumber, eachNumber, turnNumber, runNumber, showNumber, countNumber}
 
 -- ---- open
+
+-- what an opening hands back, with the records as it leaves them
+pub record Opened : Type 0 where
+  pub refusal : ℕ
+  pub floor : Floor
+  pub records : List Worker
 
 -- the floor that a plan asks for: "the last ticket becomes 0"
 abbrev pub planned : Plan → Floor
@@ -41,14 +47,23 @@ openCall board f records listed p =
     (after (openedBoard (p .buckets) (p .version)) (record { refusal = 0; floor = planned p; records = replicate (length records) idle }))
     (after board (record { refusal = openNumber (planned p) board listed; floor = f; records = records }))
 
+-- an opening as far as it concerns no record: of the list it says how many become idle
+abbrev pub layCall : List ℕ → Floor → ℕ → Plan → After Laid
+layCall board f listed p =
+    let x = openCall board f [] listed p in
+    let number = x .handed .refusal in
+    after (x .words) (record { floor = x .handed .floor; idle = cond (eqb number 0) listed 0; refusal = number })
+
 -- ---- start
 
--- a start, late if its ticket is spent: where it is accepted the record becomes `new` and the floor `f`
+-- a start with this number of refusal, or 0: where it is accepted the record becomes `new` and the floor `g`
+abbrev pub started : ℕ → Floor → Worker → Worker → Floor → Started
+started number f w new g =
+    cond (eqb number 0) (record { worker = new; floor = g; refusal = 0 }) (record { worker = w; floor = f; refusal = number })
+
+-- a start, late if its ticket is spent
 unfoldable pub startCall : List ℕ → Seat → Worker → Bool → Worker → Floor → Started
-startCall board s w late new f =
-    cond (eqb (startNumber (s .floor) board (s .listed) (s .worker) w late) 0)
-    (record { refusal = 0; floor = f; worker = new })
-    (record { refusal = startNumber (s .floor) board (s .listed) (s .worker) w late; floor = s .floor; worker = w })
+startCall board s w late new g = started (startNumber (s .floor) board (s .listed) (s .worker) w late) (s .floor) w new g
 
 -- "acceptance makes it the last ticket"
 abbrev pub spending : Floor → ℕ → Floor
@@ -76,6 +91,16 @@ turnDone f board w s = after (withBucket board (bucketOf (w .key) (f .buckets)) 
 -- what a turn with this number of refusal, or 0, comes to
 unfoldable pub turned : ℕ → Floor → List ℕ → Worker → After Turned
 turned number f board w = cond (eqb number 0) (turnDone f board w (turn (bucketFor f board (w .key)) w)) (after board (refusing number w))
+
+-- the same without an enum
+unfoldable pub tried : ℕ → Floor → List ℕ → Worker → After Tried
+tried number f board w =
+    let s = turn (bucketFor f board (w .key)) w in
+    cond (eqb number 0) (after (turnDone f board w s .words) (done (s .stepped) (w .place))) (after board (refused number w))
+
+-- one turn, so
+unfoldable pub tryCall : List ℕ → Seat → Worker → After Tried
+tryCall board s w = tried (turnNumber (s .floor) board (s .listed) (s .worker) w) (s .floor) board w
 
 -- one turn
 unfoldable pub turnCall : List ℕ → Seat → Worker → After Turned
@@ -118,6 +143,12 @@ cappedTotals t = record { turns = capped (t .turns); changes = capped (t .change
 -- nothing is counted yet
 abbrev pub noTurns : Totals
 noTurns = record { turns = 0; changes = 0; lost = 0; full = 0 }
+
+-- what a run hands back, with the records as it leaves them
+pub record Ran : Type 0 where
+  pub records : List Worker
+  pub totals : Totals
+  pub stop : ℕ
 
 -- how a run stands: what it has left so far, what it has counted, and the number that stopped it, or 0
 abbrev pub standing : List ℕ → List Worker → Totals → ℕ → After Ran

@@ -12,10 +12,18 @@ use Rattle.engine.specs.declared.Floor.{Floor}
 use Rattle.engine.specs.Board.{bucketOf, bucketAt, anyBroken}
 
 -- 1: "W or N outside its range, board not 8N words"
-unfoldable pub wrongFloor : Floor → List ℕ → Bool
-wrongFloor f board = not (within 1 64 (f .workers) && (within 1 256 (f .buckets) && eqb (length board) (8 * f .buckets)))
+abbrev pub wrongWords : Floor → ℕ → Bool
+wrongWords f words = not (within 1 64 (f .workers) && (within 1 256 (f .buckets) && eqb words (8 * f .buckets)))
 
 -- 1: ".. or list not W records where the call takes one"
+abbrev pub wrongListed : Floor → ℕ → ℕ → Bool
+wrongListed f words listed = wrongWords f words || not (eqb listed (f .workers))
+
+-- the same of a board
+unfoldable pub wrongFloor : Floor → List ℕ → Bool
+wrongFloor f board = wrongWords f (length board)
+
+-- the same of a board and a list
 unfoldable pub wrongSizes : Floor → List ℕ → ℕ → Bool
 wrongSizes f board listed = wrongFloor f board || not (eqb listed (f .workers))
 
@@ -35,14 +43,17 @@ bucketFor f board lot = bucketAt board (bucketOf lot (f .buckets))
 unfoldable pub openNumber : Floor → List ℕ → ℕ → ℕ
 openNumber f board listed = cond (wrongSizes f board listed) 1 0
 
--- "start 1, 2, 3, 4, 5"; 5 only where the call has a ticket that is spent
+-- of a start: "3, 4, 5"; 5 only where the call has a ticket that is spent
+abbrev pub recordNumber : Worker → Bool → ℕ
+recordNumber w late = cond (broken w) 3 (cond (not (isIdle w)) 4 (cond late 5 0))
+
+-- a start's number by the lengths of the board and the list
+abbrev pub startRefusal : Floor → ℕ → ℕ → ℕ → Worker → Bool → ℕ
+startRefusal f words listed i w late = cond (wrongListed f words listed) 1 (cond (noWorker f i) 2 (recordNumber w late))
+
+-- "start 1, 2, 3, 4, 5"
 unfoldable pub startNumber : Floor → List ℕ → ℕ → ℕ → Worker → Bool → ℕ
-startNumber f board listed i w late =
-    cond (wrongSizes f board listed) 1
-    (cond (noWorker f i) 2
-    (cond (broken w) 3
-    (cond (not (isIdle w)) 4
-    (cond late 5 0))))
+startNumber f board listed i w late = cond (wrongSizes f board listed) 1 (cond (noWorker f i) 2 (recordNumber w late))
 
 -- a run's "then each turn": 2, 3, 6, 7
 unfoldable pub eachNumber : Floor → List ℕ → ℕ → Worker → ℕ
@@ -52,9 +63,17 @@ eachNumber f board i w = cond (noWorker f i) 2 (turnRefusal (bucketFor f board (
 unfoldable pub turnNumber : Floor → List ℕ → ℕ → ℕ → Worker → ℕ
 turnNumber f board listed i w = cond (wrongSizes f board listed) 1 (eachNumber f board i w)
 
--- "run 1, 9, then each turn": 9 is a "run over 65,535 turns"
+-- 9 is a "run over 65,535 turns"
+abbrev pub tooLong : ℕ → ℕ
+tooLong count = cond (ltb 65535 count) 9 0
+
+-- a run is refused as a whole by 1 and 9: by the lengths of the board, the list and the run
+abbrev pub runRefusal : Floor → ℕ → ℕ → ℕ → ℕ
+runRefusal f words listed count = cond (wrongListed f words listed) 1 (tooLong count)
+
+-- "run 1, 9, then each turn"
 unfoldable pub runNumber : Floor → List ℕ → ℕ → List ℕ → ℕ
-runNumber f board listed turns = cond (wrongSizes f board listed) 1 (cond (ltb 65535 (length turns)) 9 0)
+runNumber f board listed turns = cond (wrongSizes f board listed) 1 (tooLong (length turns))
 
 -- "show 1, 7"
 unfoldable pub showNumber : Floor → List ℕ → ℕ → ℕ

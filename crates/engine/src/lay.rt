@@ -1,11 +1,8 @@
-// What an opening lays out: empty buckets at one version, and idle records.
+// What an opening lays out: empty buckets at one version.
 ghost use mathlib.Core.Path.{_≡_};
 ghost use Prim.Native.Nat.{_*_, _≤_};
-ghost use lib.ListN.{length, replicate};
-ghost use Rattle.turn.specs.Worker.{idle};
+ghost use lib.ListN.{length};
 ghost use Rattle.engine.specs.Board.{emptyBucket, openedBoard};
-use turn::Worker;
-use turn::record;
 
 fn clear(bucket: &mut [u64], version: u32)
     requires { ⌜ length (now bucket) ≡ 8 ⌝ }
@@ -31,11 +28,4 @@ pub fn open(board: &mut [u64], buckets: usize, version: u32)
         clear(&mut board[at..at + 8], version);
         b += 1;
     }
-}
-
-pub fn idle_records() -> [Worker; 64]
-    ensures { λ r. ⌜ r ≡ replicate 64 idle ⌝ }
-{
-    let w = record::idle();
-    [w; 64]
 }

@@ -1,9 +1,11 @@
 // The calls of the desk on a lent board, with the records by value.
 ghost use mathlib.Core.Path.{_≡_};
+ghost use mathlib.Core.Bool.{cond};
 ghost use Rattle.turn.specs.Turn.{after};
-ghost use Rattle.engine.specs.Refusals.{startNumber, showNumber};
-ghost use Rattle.engine.specs.Calls.{blank, openCall, startCall, lookCall, insertCall, removeCall, runCall, showStart};
+ghost use Rattle.engine.specs.Refusals.{recordNumber, startRefusal, runRefusal, showNumber};
+ghost use Rattle.engine.specs.Calls.{blank, layCall, started, lookCall, insertCall, removeCall, tryCall, showStart};
 ghost use Rattle.engine.specs.Promises.{TurnDone, Shown, CountDone};
+use turn::Tried;
 use turn::Turned;
 use turn::Worker;
 use turn::record;
@@ -12,7 +14,7 @@ use turn::refusal;
 pub mod tally; // what turns are counted by
 mod size; // whether floor, board and list fit together
 mod lay; // an opened board
-mod take; // a turn on the board, and a run of them
+mod take; // a turn on the board
 mod lots; // the lots on the board
 
 // The number of workers W, the number of buckets N, and the last ticket.
@@ -45,16 +47,17 @@ pub struct Seat {
     pub worker: usize,
 }
 
-pub struct Opened {
-    pub refusal: u8,
+// What an opening has laid out beside the board: the floor, and how many records become idle.
+pub struct Laid {
     pub floor: Floor,
-    pub records: [Worker; 64],
+    pub idle: usize,
+    pub refusal: u8,
 }
 
 pub struct Started {
-    pub refusal: u8,
-    pub floor: Floor,
     pub worker: Worker,
+    pub floor: Floor,
+    pub refusal: u8,
 }
 
 // "turns done, changes, lost swaps, full rounds"
@@ -64,12 +67,6 @@ pub struct Totals {
     pub changes: u32,
     pub lost: u32,
     pub full: u32,
-}
-
-pub struct Ran {
-    pub records: [Worker; 64],
-    pub totals: Totals,
-    pub stop: u8,
 }
 
 pub enum Counted {
@@ -82,26 +79,21 @@ pub fn blank() -> Worker
     ensures { λ r. ⌜ r ≡ blank ⌝ }
 {
     Worker {
+        key: 0,
+        word: 0,
+        seen: 0,
+        ticket: 0,
         kind: 0,
         place: 0,
-        key: 0,
-        ticket: 0,
         slot: 0,
-        word: 0,
         held: 0,
-        seen: 0,
     }
 }
 
-// Opens a floor on a lent board of eight words a bucket and a list of as many records as there are workers.
-pub fn open_floor(
-    board: &mut [u64],
-    floor: Floor,
-    records: [Worker; 64],
-    listed: usize,
-    plan: Plan,
-) -> Opened
-    ensures { λ r. ⌜ after (now (board .exit)) r ≡ openCall (now (board .entry)) floor records listed plan ⌝ }
+// Opens a floor on a lent board of eight words a bucket, for a list of as many records as there are workers; whoever has the list
+// makes its records idle.
+pub fn open_floor(board: &mut [u64], floor: Floor, listed: usize, plan: Plan) -> Laid
+    ensures { λ r. ⌜ after (now (board .exit)) r ≡ layCall (now (board .entry)) floor listed plan ⌝ }
 {
     let opened = Floor {
         workers: plan.workers,
@@ -109,17 +101,17 @@ pub fn open_floor(
         last: 0,
     };
     if size::are_wrong(board, opened, listed) {
-        return Opened {
-            refusal: refusal::WRONG_SIZES,
+        return Laid {
             floor,
-            records,
+            idle: 0,
+            refusal: refusal::WRONG_SIZES,
         };
     }
     lay::open(board, plan.buckets, plan.version);
-    Opened {
-        refusal: 0,
+    Laid {
         floor: opened,
-        records: lay::idle_records(),
+        idle: listed,
+        refusal: 0,
     }
 }
 
@@ -127,22 +119,24 @@ pub fn start_look(board: &[u64], seat: Seat, w: Worker, lot: u64) -> Started
     ensures { λ r. ⌜ r ≡ lookCall (now (board .entry)) seat w lot ⌝ }
 {
     let floor = seat.floor;
-    start(board, seat, w, false, record::look_for(lot), floor)
+    let refusal = start_refusal(floor, board.len(), seat.listed, seat.worker, w, false);
+    start(refusal, floor, w, record::look_for(lot), floor)
 }
 
 pub fn start_insert(board: &[u64], seat: Seat, w: Worker, bid: Bid) -> Started
     ensures { λ r. ⌜ r ≡ insertCall (now (board .entry)) seat w bid ⌝ }
 {
-    let mut floor = seat.floor;
+    let floor = seat.floor;
+    let mut after = seat.floor;
+    after.last = bid.ticket;
     let late = bid.ticket <= floor.last;
-    floor.last = bid.ticket;
+    let refusal = start_refusal(floor, board.len(), seat.listed, seat.worker, w, late);
     start(
-        board,
-        seat,
-        w,
-        late,
-        record::insert_of(bid.lot, bid.ticket),
+        refusal,
         floor,
+        w,
+        record::insert_of(bid.lot, bid.ticket),
+        after,
     )
 }
 
@@ -150,82 +144,102 @@ pub fn start_remove(board: &[u64], seat: Seat, w: Worker, lot: u64) -> Started
     ensures { λ r. ⌜ r ≡ removeCall (now (board .entry)) seat w lot ⌝ }
 {
     let floor = seat.floor;
-    start(board, seat, w, false, record::remove_of(lot), floor)
+    let refusal = start_refusal(floor, board.len(), seat.listed, seat.worker, w, false);
+    start(refusal, floor, w, record::remove_of(lot), floor)
 }
 
-fn start_refusal(board: &[u64], seat: Seat, w: Worker, late: bool) -> u8
-    ensures { λ r. ⌜ r ≡ startNumber (seat .floor) (now (board .entry)) (seat .listed) (seat .worker) w late ⌝ }
+// By the lengths of board and list alone, and on its own: what is left of a start is small enough to stand where it is called.
+fn start_refusal(
+    floor: Floor,
+    words: usize,
+    listed: usize,
+    worker: usize,
+    w: Worker,
+    late: bool,
+) -> u8
+    ensures { λ r. ⌜ r ≡ startRefusal floor words listed worker w late ⌝ }
 {
-    let floor = seat.floor;
-    if size::are_wrong(board, floor, seat.listed) {
+    if size::words_are_wrong(floor, words, listed) {
         return refusal::WRONG_SIZES;
     }
-    if floor.workers <= seat.worker {
+    if floor.workers <= worker {
         return refusal::NO_WORKER;
     }
-    if record::is_broken(w) {
-        return refusal::BROKEN_RECORD;
+    record_refusal(w, late)
+}
+
+// An idle record is the one that a start is for, so that it is tested first.
+fn record_refusal(w: Worker, late: bool) -> u8
+    ensures { λ r. ⌜ r ≡ recordNumber w late ⌝ }
+{
+    if record::is_idle(w) {
+        return ticket_refusal(late);
     }
-    if !record::is_idle(w) {
+    if record::is_sound(w) {
         return refusal::BUSY_WORKER;
     }
+    refusal::BROKEN_RECORD
+}
+
+fn ticket_refusal(late: bool) -> u8
+    ensures { λ r. ⌜ r ≡ cond late 5 0 ⌝ }
+{
     if late {
         return refusal::SPENT_TICKET;
     }
     0
 }
 
-// A start on one worker's record: it becomes `new`, and the floor `after`, unless the start is refused.
-fn start(board: &[u64], seat: Seat, w: Worker, late: bool, new: Worker, after: Floor) -> Started
-    ensures { λ r. ⌜ r ≡ startCall (now (board .entry)) seat w late new after ⌝ }
+// A start with this number of refusal, or 0: the record becomes `new` and the floor `after`, or both stay.
+fn start(refusal: u8, floor: Floor, w: Worker, new: Worker, after: Floor) -> Started
+    ensures { λ r. ⌜ r ≡ started refusal floor w new after ⌝ }
 {
-    let refusal = start_refusal(board, seat, w, late);
     if refusal == 0 {
         return Started {
-            refusal: 0,
-            floor: after,
             worker: new,
+            floor: after,
+            refusal: 0,
         };
     }
-    let floor = seat.floor;
     Started {
-        refusal,
-        floor,
         worker: w,
+        floor,
+        refusal,
     }
 }
 
 // One turn of one worker, given its record.
-pub fn turn(board: &mut [u64], seat: Seat, w: Worker) -> Turned
-    ensures { λ r. ⌜ TurnDone (now (board .entry)) seat w (now (board .exit)) r ⌝ }
+pub fn try_turn(board: &mut [u64], seat: Seat, w: Worker) -> Tried
+    ensures { λ r. ⌜ after (now (board .exit)) r ≡ tryCall (now (board .entry)) seat w ⌝ }
 {
     let floor = seat.floor;
     if size::are_wrong(board, floor, seat.listed) {
-        return take::refused(refusal::WRONG_SIZES, w);
+        return turn::refused(refusal::WRONG_SIZES, w);
     }
     if floor.workers <= seat.worker {
-        return take::refused(refusal::NO_WORKER, w);
+        return turn::refused(refusal::NO_WORKER, w);
     }
     take::turn(board, floor, w)
 }
 
-// A run of turns, each a worker's number, until one is refused.
-pub fn run(
-    board: &mut [u64],
-    floor: Floor,
-    records: [Worker; 64],
-    listed: usize,
-    turns: &[u8],
-) -> Ran
-    ensures { λ r. ⌜ after (now (board .exit)) r ≡ runCall (now (board .entry)) floor records listed (now (turns .entry)) ⌝ }
+// The same, answered by an enum.
+pub fn turn(board: &mut [u64], seat: Seat, w: Worker) -> Turned
+    ensures { λ r. ⌜ TurnDone (now (board .entry)) seat w (now (board .exit)) r ⌝ }
 {
-    if size::are_wrong(board, floor, listed) {
-        return take::stopped(records, refusal::WRONG_SIZES);
+    turn::answered(try_turn(board, seat, w))
+}
+
+// The number that refuses a run as a whole, or 0: of a board of so many words, a list of so many records, and so many turns.
+pub fn run_refusal(floor: Floor, words: usize, listed: usize, count: usize) -> u8
+    ensures { λ r. ⌜ r ≡ runRefusal floor words listed count ⌝ }
+{
+    if size::words_are_wrong(floor, words, listed) {
+        return refusal::WRONG_SIZES;
     }
-    if 65535 < turns.len() {
-        return take::stopped(records, refusal::TOO_LONG);
+    if 65535 < count {
+        return refusal::TOO_LONG;
     }
-    take::run(board, floor, records, turns)
+    0
 }
 
 // The bucket of a lot, as that part of the lent board; an empty part where the show is refused.
@@ -269,8 +283,5 @@ pub fn count(board: &[u64], floor: Floor) -> Counted
     if size::is_wrong(board, floor) {
         return Counted::Refusal(refusal::WRONG_SIZES);
     }
-    if lots::any_broken(board, floor.buckets) {
-        return Counted::Refusal(refusal::BROKEN_BUCKET);
-    }
-    Counted::Lots(lots::count(board, floor.buckets))
+    lots::count(board, floor.buckets)
 }

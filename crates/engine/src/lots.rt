@@ -1,5 +1,6 @@
 // The buckets of the board, and the lots in them.
 ghost use mathlib.Core.Path.{_≡_};
+ghost use mathlib.Core.Bool.{cond};
 ghost use Prim.Native.Nat.{_+_, _*_, _≤_, _<_};
 ghost use lib.ListN.{length};
 ghost use Rattle.mark.specs.Word.{sumMarks};
@@ -7,8 +8,10 @@ ghost use Rattle.turn.specs.Bucket.{brokenBucket};
 ghost use Rattle.engine.specs.Board.{bucketOf, taken, lotsOn, anyBroken};
 ghost use Rattle.engine.specs.Refusals.{bucketFor};
 ghost use Rattle.engine.specs.Room.{Right};
+use crate::Counted;
 use crate::Floor;
 use turn::bucket;
+use turn::refusal;
 
 // Where the bucket of a lot starts: eight times the bucket number.
 pub fn first_word(lot: u64, buckets: usize) -> usize
@@ -26,21 +29,6 @@ pub fn is_broken(board: &[u64], floor: Floor, lot: u64) -> bool
 {
     let at = first_word(lot, floor.buckets);
     bucket::is_broken(&board[at..at + 8])
-}
-
-pub fn any_broken(board: &[u64], buckets: usize) -> bool
-    requires { ⌜ (buckets ≤ 256) × (length (now board) ≡ 8 * buckets) ⌝ }
-    ensures { λ r. ⌜ r ≡ anyBroken (now (board .entry)) buckets ⌝ }
-{
-    let mut b = 0;
-    while b < buckets {
-        let at = 8 * b;
-        if bucket::is_broken(&board[at..at + 8]) {
-            return true;
-        }
-        b += 1;
-    }
-    false
 }
 
 fn is_taken(mark: u8) -> usize
@@ -61,15 +49,20 @@ fn in_word(word: u64) -> usize
     first + second + third
 }
 
-pub fn count(board: &[u64], buckets: usize) -> usize
+// Counts bucket by bucket, and stops at the first that is broken.
+pub fn count(board: &[u64], buckets: usize) -> Counted
     requires { ⌜ (buckets ≤ 256) × (length (now board) ≡ 8 * buckets) ⌝ }
-    ensures { λ r. ⌜ r ≡ lotsOn (now (board .entry)) buckets ⌝ }
+    ensures { λ r. ⌜ r ≡ cond (anyBroken (now (board .entry)) buckets) (Counted.Refusal 7) (Counted.Lots (lotsOn (now (board .entry)) buckets)) ⌝ }
 {
     let mut lots = 0;
     let mut b = 0;
     while b < buckets {
-        lots += in_word(board[8 * b]);
+        let at = 8 * b;
+        if bucket::is_broken(&board[at..at + 8]) {
+            return Counted::Refusal(refusal::BROKEN_BUCKET);
+        }
+        lots += in_word(board[at]);
         b += 1;
     }
-    lots
+    Counted::Lots(lots)
 }

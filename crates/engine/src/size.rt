@@ -1,11 +1,11 @@
 // Whether floor, board and list fit together: number 1.
 ghost use mathlib.Core.Path.{_≡_};
-ghost use Rattle.engine.specs.Refusals.{wrongFloor, wrongSizes};
+ghost use Rattle.engine.specs.Refusals.{wrongWords, wrongListed, wrongFloor, wrongSizes};
 use crate::Floor;
 
 // "W or N outside its range, board not 8N words"
-pub fn is_wrong(board: &[u64], floor: Floor) -> bool
-    ensures { λ r. ⌜ r ≡ wrongFloor floor (now (board .entry)) ⌝ }
+fn has_wrong_words(floor: Floor, words: usize) -> bool
+    ensures { λ r. ⌜ r ≡ wrongWords floor words ⌝ }
 {
     if floor.workers < 1 {
         return true;
@@ -19,15 +19,27 @@ pub fn is_wrong(board: &[u64], floor: Floor) -> bool
     if floor.buckets > 256 {
         return true;
     }
-    board.len() != 8 * floor.buckets
+    words != 8 * floor.buckets
 }
 
 // ".. or list not W records where the call takes one"
-pub fn are_wrong(board: &[u64], floor: Floor, listed: usize) -> bool
-    ensures { λ r. ⌜ r ≡ wrongSizes floor (now (board .entry)) listed ⌝ }
+pub fn words_are_wrong(floor: Floor, words: usize, listed: usize) -> bool
+    ensures { λ r. ⌜ r ≡ wrongListed floor words listed ⌝ }
 {
-    if is_wrong(board, floor) {
+    if has_wrong_words(floor, words) {
         return true;
     }
     listed != floor.workers
+}
+
+pub fn is_wrong(board: &[u64], floor: Floor) -> bool
+    ensures { λ r. ⌜ r ≡ wrongFloor floor (now (board .entry)) ⌝ }
+{
+    has_wrong_words(floor, board.len())
+}
+
+pub fn are_wrong(board: &[u64], floor: Floor, listed: usize) -> bool
+    ensures { λ r. ⌜ r ≡ wrongSizes floor (now (board .entry)) listed ⌝ }
+{
+    words_are_wrong(floor, board.len(), listed)
 }

@@ -8,8 +8,7 @@ use Rattle.turn.specs.Turn.{After, after}
 use Rattle.mark.proofs.OneAnswer.{one-answer}
 use Rattle.turn.proofs.OneOutcome.{one-outcome}
 use Rattle.engine.specs.declared.Floor.{Floor}
-use Rattle.engine.specs.declared.Opened.{Opened}
-use Rattle.engine.specs.declared.Ran.{Ran}
+use Rattle.engine.specs.Calls.{Opened, Ran}
 use Rattle.floor.specs.declared.Outcome.{Outcome}
 use Rattle.floor.specs.declared.TurnOutcome.{TurnOutcome}
 use Rattle.floor.specs.declared.RunOutcome.{RunOutcome}

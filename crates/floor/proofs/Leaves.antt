@@ -1,8 +1,9 @@
 -- The leaves as steps of a caller's walk. Each takes the lent list whole, with a share of its lifetime's token, from the head of the
 -- context; the operands are read with one entry for the two. Assumes `Given`, and that the leaf meets its contract.
 --     lent-call                a callee to which the list is lent as a `&`: it comes back as it was
---     given-call               a callee to which it goes for good as a `&mut`: its last state is said, and the token is back
---     take-call, load-call, put-call, store-call       the four leaves
+--     given-call               a callee to which it goes for good as a `&mut`, at the machine value sx: its last state is said, and the
+--                              token is back
+--     take-call, put-call      the two leaves
 --     take-known, ..           the leaf's theorem, at the key by which a caller's MIR calls it
 use mathlib.Core.Path.{_≡_, refl}
 use Prim.Native.Nat.{ℕ, _<_, _^_}
@@ -43,24 +44,17 @@ use denote.Triple.Statement.{Triple}
 use denote.Triple.Table.{cited}
 use Rattle.turn.specs.declared.Worker.{Worker}
 use Rattle.engine.specs.Calls.{blank}
-use Rattle.floor.specs.Lent.{loaded, over}
 use Rattle.turn.proofs.Worker as T
 use Rattle.turn.proofs.Worker.Laws as T′
 use Rattle.floor.proofs.Walk.{arg-num, cited-call}
 use Rattle.floor.proofs.Lend.{Shared, lends-shared, back-from-shared}
-use Rattle.floor.proofs.Records.{row, vals, val, roster, roster-val, roster-tells, arg-worker, arg-roster}
+use Rattle.floor.proofs.Records.{row, vals, val, arg-worker}
 use Rattle.floor.proofs.list.take_at as take
 use Rattle.floor.proofs.list.take_at.Symbol as take-def
 use Rattle.floor.proofs.list.take_at.Met as take-thm
 use Rattle.floor.proofs.list.put_at as put
 use Rattle.floor.proofs.list.put_at.Symbol as put-def
 use Rattle.floor.proofs.list.put_at.Met as put-thm
-use Rattle.floor.proofs.list.load as load
-use Rattle.floor.proofs.list.load.Symbol as load-def
-use Rattle.floor.proofs.list.load.Met as load-thm
-use Rattle.floor.proofs.list.store as store
-use Rattle.floor.proofs.list.store.Symbol as store-def
-use Rattle.floor.proofs.list.store.Met as store-thm
 
 module _ {M : Type 1} (𝓤 : URA M) (H : Heap 𝓤) (A : Atoms 𝓤) (mem : Memory → SProp 𝓤) (run : Routine → Fun 𝓤) (C : Calls 𝓤 H) where
   abbrev pub Takes : Type 1
@@ -68,12 +62,6 @@ module _ {M : Type 1} (𝓤 : URA M) (H : Heap 𝓤) (A : Atoms 𝓤) (mem : Mem
 
   abbrev pub Puts : Type 1
   Puts = Triple 𝓤 (C put-def.name) (tripleOf 𝓤 H A put.signature (put.spec 𝓤 H A mem run))
-
-  abbrev pub Loads : Type 1
-  Loads = Triple 𝓤 (C load-def.name) (tripleOf 𝓤 H A load.signature (load.spec 𝓤 H A mem run))
-
-  abbrev pub Stores : Type 1
-  Stores = Triple 𝓤 (C store-def.name) (tripleOf 𝓤 H A store.signature (store.spec 𝓤 H A mem run))
 
 -- ---- a callee that takes the list, lent as a `&` or given as a `&mut`, and after it what the slots ps take
 module _ (ps : List (Slot 1)) (ks : Kepts ps) (R : RattleType) where
@@ -122,19 +110,19 @@ module _ {M : Type 1} {𝓤 : URA M} {H : Heap 𝓤} {A : Atoms 𝓤} {K : Type 
       (‵ (flft (ν ∷ []) fullShare) ⊛ ‵ ftrue) refl spell tl (λ r _. φ r) (says ν δ .2) (os ν δ) (λ r _ is e.
       split t $ move t (0 ∷ 3 ∷ []) $ back-from-shared t tt row ℓ x room $ move t (2 ∷ 3 ∷ []) $ drop t $ drop t $ k r is e))
 
-  given-call : {f : Name} → K → FmC 𝓤 H (W .laws) C → (ps : List (Slot 1)) (ks : Kepts ps) (c : Clauses 𝓤 (given-ended ps ks Nothing))
+  pub given-call : {f : Name} → K → FmC 𝓤 H (W .laws) C → (ps : List (Slot 1)) (ks : Kepts ps) (c : Clauses 𝓤 (given-ended ps ks Nothing))
       → Triple 𝓤 (C f) (tripleOf 𝓤 H A (given-ended ps ks Nothing .signature) (closing 𝓤 H A (given-ended ps ks Nothing) c))
       → (ds : Denots (typesAt ps (κ, tt))) (vs : Valss (typesAt ps (κ, tt))) → ent 𝓤 (emp 𝓤) (sem 𝓤 H A (owns (typesAt ps (κ, tt)) ds vs))
       → (φ : List Worker → Type 0)
-      → (x : RefT (List Worker)) → Says 𝓤 (given-ended ps ks Nothing) c (κ, tt) (x, ds) (λ _ us. φ (us .0))
-      → Opds K W (((‵ (flft κ q) ⊛ ‵ ftrue) ⊛ ‵ (owns (MutSlice (named 0) κ row ∷ typesAt ps (κ, tt)) (x, ds) (slice-vals x, vs))) ∷ Γ) E xs
-      (only (slice-vals x) ∷ flat (typesAt ps (κ, tt)) vs)
+      → (x : RefT (List Worker)) (sx : Val) → Says 𝓤 (given-ended ps ks Nothing) c (κ, tt) (x, ds) (λ _ us. φ (us .0))
+      → Opds K W (((‵ (flft κ q) ⊛ ‵ ftrue) ⊛ ‵ (owns (MutSlice (named 0) κ row ∷ typesAt ps (κ, tt)) (x, ds) (sx ∷ [], vs))) ∷ Γ) E xs
+      (sx ∷ flat (typesAt ps (κ, tt)) vs)
       → ((zs : List Worker) → length zs ≡ length (x .now) → φ zs
       → Seq K W (‵ (flft κ q) ∷ ‵ (finally row (x .name) zs) ∷ Γ) (lands C Λ E d vunit rest p))
-      → Seq K W (‵ (MutSlice (named 0) κ row .own x (slice-vals x)) ∷ ‵ (flft κ q) ∷ Γ) (runs C Λ E (seq (call f xs d) rest) p)
-  given-call t fm ps ks c met ds vs had φ x says os k =
+      → Seq K W (‵ (MutSlice (named 0) κ row .own x (sx ∷ [])) ∷ ‵ (flft κ q) ∷ Γ) (runs C Λ E (seq (call f xs d) rest) p)
+  given-call t fm ps ks c met ds vs had φ x sx says os k =
       use0 W (‵ (owns (typesAt ps (κ, tt)) ds vs)) had $ move t (1 ∷ 0 ∷ []) $ fjoin t $ nothing t $ move t (2 ∷ 0 ∷ []) $ join t $ join t $
-      cited-call t fm (given-ended ps ks Nothing) c met (((κ, tt), (q, tt), tt, (x, ds), (slice-vals x, vs)), says .0) (says .1)
+      cited-call t fm (given-ended ps ks Nothing) c met (((κ, tt), (q, tt), tt, (x, ds), (sx ∷ [], vs)), says .0) (says .1)
       (‵ (flft κ q) ⊛ ‵ ftrue) refl (λ _. vunit) nothing-tells (λ _ us. φ (us .0)) (says .2) os (λ _ us _ e.
       move t (1 ∷ []) $ fsplit t $ fsplit t $ move t (1 ∷ []) $ feqL t (λ same. move t (1 ∷ []) $ drop t $ move t (1 ∷ []) $ split t $
       move t (1 ∷ []) $ drop t $ k (us .0) same e))
@@ -153,41 +141,17 @@ module _ {M : Type 1} {𝓤 : URA M} {H : Heap 𝓤} {A : Atoms 𝓤} {K : Type 
       (λ _. (i, tt)) (λ _. (uint-vals w64 i, tt)) (λ _. qed W [] ∵ nothing ! $ arg-num ! i fits $ done !)
       val (LL.tells T.the-type T′.the-laws) (λ r. r ≡ getD (x .now) i blank) ℓ x room (λ ν δ. (tt, id⊢ 𝓤 _, λ r ws. refl)) os k
 
-  pub put-call : K → (mem : Memory → SProp 𝓤) (run : Routine → Fun 𝓤) → FmC 𝓤 H (W .laws) C → Puts 𝓤 H A mem run C → (x : RefT (List Worker)) (i : ℕ)
+  pub put-call : K → (mem : Memory → SProp 𝓤) (run : Routine → Fun 𝓤) → FmC 𝓤 H (W .laws) C → Puts 𝓤 H A mem run C → (x : RefT (List Worker)) (sx : Val) (i : ℕ)
       → i < 2 ^ 64 → (w : Worker) → Is row w (vals w)
       → Opds K W (((‵ (flft κ q) ⊛ ‵ ftrue) ⊛ ‵ (owns (MutSlice (named 0) κ row ∷ usize ∷ row ∷ []) (x, (i, (w, tt)))
-      (slice-vals x, (uint-vals w64 i, (vals w, tt))))) ∷ Γ) E xs (only (slice-vals x) ∷ only (uint-vals w64 i) ∷ val w ∷ [])
+      (sx ∷ [], (uint-vals w64 i, (vals w, tt))))) ∷ Γ) E xs (sx ∷ only (uint-vals w64 i) ∷ val w ∷ [])
       → ((zs : List Worker) → length zs ≡ length (x .now) → zs ≡ set (x .now) i w
       → Seq K W (‵ (flft κ q) ∷ ‵ (finally row (x .name) zs) ∷ Γ) (lands C Λ E d vunit rest p))
-      → Seq K W (‵ (MutSlice (named 0) κ row .own x (slice-vals x)) ∷ ‵ (flft κ q) ∷ Γ) (runs C Λ E (seq (call put-def.name xs d) rest) p)
-  put-call t mem run fm met x i fits w is os k =
+      → Seq K W (‵ (MutSlice (named 0) κ row .own x (sx ∷ [])) ∷ ‵ (flft κ q) ∷ Γ) (runs C Λ E (seq (call put-def.name xs d) rest) p)
+  put-call t mem run fm met x sx i fits w is os k =
       given-call t fm (plain (λ _. usize) ∷ plain (λ _. row) ∷ []) (yes, (yes, tt)) (put.clauses 𝓤 H A mem run) met (i, (w, tt))
       (uint-vals w64 i, (vals w, tt)) (qed W [] ∵ nothing ! $ arg-worker ! w is $ arg-num ! i fits $ done !)
-      (λ zs. zs ≡ set (x .now) i w) x (tt, id⊢ 𝓤 _, λ r ws. refl) os k
-
-  -- ---- all of them
-  pub load-call : K → (mem : Memory → SProp 𝓤) (run : Routine → Fun 𝓤) → FmC 𝓤 H (W .laws) C → Loads 𝓤 H A mem run C
-      → (ℓ : Lifetime) (x : RefT (List Worker)) → Room row (length (x .now))
-      → ((ν : ℕ) (δ : GName)
-      → Opds K W (((‵ (flft (ν ∷ []) fullShare) ⊛ ‵ ftrue) ⊛ ‵ (owns (ShrSlice (named 0) (ν ∷ []) row ∷ [])
-      (record { ptr = x .ptr; name = δ; now = x .now }, tt) (slice-vals x, tt))) ∷ ‵ (Shared row κ (ν ∷ []) q x) ∷ Γ) E xs (only (slice-vals x) ∷ []))
-      → ((c : List Worker) → Is roster c (roster-val c ∷ []) → c ≡ loaded (x .now)
-      → Seq K W (‵ (MutSlice ℓ κ row .own x (slice-vals x)) ∷ ‵ (flft κ q) ∷ Γ) (lands C Λ E d (roster-val c) rest p))
-      → Seq K W (‵ (MutSlice ℓ κ row .own x (slice-vals x)) ∷ ‵ (flft κ q) ∷ Γ) (runs C Λ E (seq (call load-def.name xs d) rest) p)
-  load-call t mem run fm met ℓ x room os k = lent-call t fm [] tt roster (load.clauses 𝓤 H A mem run) met (λ _. tt) (λ _. tt)
-      (λ _. id⊢ 𝓤 _) roster-val roster-tells (λ r. r ≡ loaded (x .now)) ℓ x room (λ ν δ. (tt, id⊢ 𝓤 _, λ r ws. refl)) os k
-
-  pub store-call : K → (mem : Memory → SProp 𝓤) (run : Routine → Fun 𝓤) → FmC 𝓤 H (W .laws) C → Stores 𝓤 H A mem run C
-      → (x : RefT (List Worker)) (c : List Worker) → Is roster c (roster-val c ∷ [])
-      → Opds K W (((‵ (flft κ q) ⊛ ‵ ftrue) ⊛ ‵ (owns (MutSlice (named 0) κ row ∷ roster ∷ []) (x, (c, tt)) (slice-vals x, (roster-val c ∷ [], tt))))
-      ∷ Γ) E xs (only (slice-vals x) ∷ roster-val c ∷ [])
-      → ((zs : List Worker) → length zs ≡ length (x .now) → zs ≡ over c (x .now)
-      → Seq K W (‵ (flft κ q) ∷ ‵ (finally row (x .name) zs) ∷ Γ) (lands C Λ E d vunit rest p))
-      → Seq K W (‵ (MutSlice (named 0) κ row .own x (slice-vals x)) ∷ ‵ (flft κ q) ∷ Γ) (runs C Λ E (seq (call store-def.name xs d) rest) p)
-  store-call t mem run fm met x c is os k =
-      given-call t fm (plain (λ _. roster) ∷ []) (yes, tt) (store.clauses 𝓤 H A mem run) met (c, tt) (roster-val c ∷ [], tt) (qed W [] ∵ nothing ! $
-      arg-roster ! c is $ done !)
-      (λ zs. zs ≡ over c (x .now)) x (tt, id⊢ 𝓤 _, λ r ws. refl) os k
+      (λ zs. zs ≡ set (x .now) i w) x sx (tt, id⊢ 𝓤 _, λ r ws. refl) os k
 
 -- ---- the leaves' theorems, for a caller
 module _ {M : Type 1} (𝓤 : URA M) (H : Heap 𝓤) (𝓜 : Model 𝓤 H) (𝓖 : GhostRules 𝓤 H) (𝓡 : Running 𝓤 H 𝓜) (γ : REnv) where
@@ -198,11 +162,3 @@ module _ {M : Type 1} (𝓤 : URA M) (H : Heap 𝓤) (𝓜 : Model 𝓤 H) (𝓖
   pub put-known : γ put-def.name ≡ put-def.routine → Puts 𝓤 H (𝓖 .A) (𝓜 .mem) (𝓡 .run) (tables 𝓤 H 𝓜 𝓡 γ .C)
   put-known e = cited 𝓤 H (tripleOf 𝓤 H (𝓖 .A) put.signature (put.spec 𝓤 H (𝓖 .A) (𝓜 .mem) (𝓡 .run))) 𝓜 𝓡 γ put-def.name put-def.routine e
       (put-thm.met 𝓤 H 𝓜 𝓖 𝓡)
-
-  pub load-known : γ load-def.name ≡ load-def.routine → Loads 𝓤 H (𝓖 .A) (𝓜 .mem) (𝓡 .run) (tables 𝓤 H 𝓜 𝓡 γ .C)
-  load-known e = cited 𝓤 H (tripleOf 𝓤 H (𝓖 .A) load.signature (load.spec 𝓤 H (𝓖 .A) (𝓜 .mem) (𝓡 .run))) 𝓜 𝓡 γ load-def.name load-def.routine e
-      (load-thm.met 𝓤 H 𝓜 𝓖 𝓡)
-
-  pub store-known : γ store-def.name ≡ store-def.routine → Stores 𝓤 H (𝓖 .A) (𝓜 .mem) (𝓡 .run) (tables 𝓤 H 𝓜 𝓡 γ .C)
-  store-known e = cited 𝓤 H (tripleOf 𝓤 H (𝓖 .A) store.signature (store.spec 𝓤 H (𝓖 .A) (𝓜 .mem) (𝓡 .run))) 𝓜 𝓡 γ store-def.name store-def.routine e
-      (store-thm.met 𝓤 H 𝓜 𝓖 𝓡)

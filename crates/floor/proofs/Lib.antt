@@ -1,13 +1,14 @@
-pub mod Agree
 pub mod Determined
 pub mod Leaves
 pub mod Lend
 pub mod Numbers
-pub mod Over
+pub mod Opening
+pub mod Idled
 pub mod Plain
 pub mod Records
 pub mod Refused
-pub mod Rosters
 pub mod Runs
 pub mod Starts
+pub mod Turning
+pub mod Underway
 pub mod Walk

@@ -3,21 +3,26 @@
 use Prim.Native.Nat.{ℕ}
 use mathlib.Core.Path.{_≡_, refl, ap, _∙_}
 use mathlib.Core.List.{List}
-use lib.ListN.{set}
+use lib.ListN.{length, set}
 use Rattle.turn.specs.declared.Worker.{Worker}
 use Rattle.turn.specs.declared.Answer.{Answer}
 use Rattle.turn.specs.declared.Answer.the-variants.{Refused, Done}
 use Rattle.turn.specs.declared.Turned.{Turned}
-use Rattle.turn.specs.Turn.{After, after, numberOf}
+use Rattle.turn.specs.declared.Said.{Said}
+use Rattle.turn.specs.declared.Tried.{Tried}
+use Rattle.turn.specs.Turn.{After, after, numberOf, answerOf}
 use Rattle.engine.specs.declared.Floor.{Floor}
 use Rattle.engine.specs.declared.Counted.{Counted}
 use Rattle.engine.specs.declared.Counted.the-variants.{Refusal, Lots}
-use Rattle.engine.specs.Calls.{recordIn, seatIn, countedNumber}
-use Rattle.engine.specs.Promises.{TurnDone, CountDone}
+use Rattle.engine.specs.Refusals.{turnNumber}
+use Rattle.engine.specs.Calls.{recordIn, seatIn, tryCall, turnCall, countedNumber}
+use Rattle.engine.specs.Promises.{CountDone}
+use Rattle.engine.proofs.Numbers.{turn-number}
+use Rattle.engine.proofs.Turns.{tried-is-turned}
 use Rattle.floor.specs.declared.TurnOutcome.{TurnOutcome}
 use Rattle.floor.specs.declared.CountOutcome.{CountOutcome}
 use Rattle.floor.specs.Told.{turnTold, countTold}
-use Rattle.floor.specs.Calls.{OnList, onList}
+use Rattle.floor.specs.Calls.{OnList, onList, sayIn, turnIn}
 use Rattle.floor.specs.Promises.{TurnLeft, CountLeft}
 
 -- the number of a turn's answer is the one that crosses
@@ -25,21 +30,37 @@ told-number : (a : Answer) → turnTold a .refusal ≡ numberOf a
 told-number (Refused number) = refl
 told-number (Done report) = refl
 
--- a turn
-pub turn-left :
-    (board : List ℕ) (records : List Worker) (f : Floor) (i : ℕ) (w : Worker) (o : Turned) (board′ : List ℕ) (records′ : List Worker)
-    (r : TurnOutcome)
+-- a turn as it is tried
+pub says-in :
+    (board : List ℕ) (records : List Worker) (f : Floor) (i : ℕ) (w : Worker) (o : Tried) (board′ : List ℕ) (records′ : List Worker)
     → w ≡ recordIn records i
-    → TurnDone board (seatIn f records i) w board′ o
+    → after board′ o ≡ tryCall board (seatIn f records i) w
     → records′ ≡ set records i (o .worker)
-    → r ≡ turnTold (o .answer)
+    → after board′ (onList records′ (o .said)) ≡ sayIn board records f i
+says-in board records f i w o board′ records′ e₁ e₂ e₃ =
+    let put : After Tried → After (OnList Said) =
+    λ x. after (x .words) (onList (set records i (x .handed .worker)) (x .handed .said)) in
+    rw (e₃, ← e₁) (ap put e₂)
+
+-- a turn: what it says, told
+pub turn-left :
+    (board : List ℕ) (records : List Worker) (f : Floor) (i : ℕ) (board′ : List ℕ) (records′ : List Worker) (said : Said) (r : TurnOutcome)
+    → after board′ (onList records′ said) ≡ sayIn board records f i
+    → r ≡ turnTold (answerOf said)
     → TurnLeft board records f i board′ records′ r
-turn-left board records f i w o board′ records′ r e₁ e₂ e₃ e₄ =
+unfolding tryCall turnCall
+turn-left board records f i board′ records′ said r e₁ e₂ =
+    let n = turnNumber f board (length records) i (recordIn records i) in
+    let w = recordIn records i in
+    let tell : After (OnList Said) → After (OnList TurnOutcome) =
+    λ x. after (x .words) (onList (x .handed .records) (turnTold (answerOf (x .handed .answer)))) in
     let put : After Turned → After (OnList TurnOutcome) =
     λ x. after (x .words) (onList (set records i (x .handed .worker)) (turnTold (x .handed .answer))) in
+    let whole : after board′ (onList records′ r) ≡ turnIn board records f i =
+    rw e₂ (ap tell e₁ ∙ ap put (tried-is-turned n f board w)) in
     record {
-      whole = rw (e₃, e₄, ← e₁) (ap put (e₂ .whole));
-      number = rw (e₄, ← e₁) (told-number (o .answer) ∙ e₂ .number);
+      whole = whole;
+      number = ap (λ (x : After (OnList TurnOutcome)). x .handed .answer .refusal) whole ∙ told-number (turnCall board (seatIn f records i) w .handed .answer) ∙ turn-number board (seatIn f records i) w;
     }
 
 -- the number of a count's answer is the one that crosses

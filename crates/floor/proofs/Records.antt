@@ -1,4 +1,4 @@
--- A worker's record, the array of 64 of them, and a worker's seat, as the walks meet them. Here alone stands the record's size. Assumes `Given`.
+-- A worker's record and a worker's seat, as the walks meet them. Here alone stands the record's size. Assumes `Given`.
 use mathlib.Core.Path.{_≡_, refl, subst}
 use Prim.Native.Nat.{ℕ, _<_, _^_, _*_}
 use lib.ListN.{length, getD, set}
@@ -46,33 +46,14 @@ abbrev pub val : Worker → Val
 val = LL.val T.the-type T′.the-laws
 
 abbrev pub size : ℕ
-size = 48
+size = 32
 
--- where element i lies does not wrap, in the list and in the array
+-- where element i lies does not wrap
 pub scaled : (i n : ℕ) → Room row n → i < n → i * size < 2 ^ 64
 scaled i n room l = omega (arith, room .1)
 
-pub scaled-in : (k : ℕ) → k < 64 → k * size < 2 ^ 64
-scaled-in k l = omega arith
-
--- ---- the array of 64, which is the roster
-abbrev pub roster : RattleType
-roster = Array row 64
-
-abbrev pub roster-val : List Worker → Val
-roster-val c = only (array-vals vals c)
-
-pub roster-tells : Tells roster (Is roster) (λ c. roster-val c ∷ [])
-roster-tells = array-tells row vals (LL.tells T.the-type T′.the-laws) 64
-
 -- what may be stored in a local of the type, and what is owned for nothing
 module _ {M : Type 1} (𝓤 : URA M) (H : Heap 𝓤) (A : Atoms 𝓤) (W : Given 𝓤 H A) where
-  pub roster-typed : (c : List Worker) → Is roster c (roster-val c ∷ []) → T (hasTy (tyArray T′.mir 64) (roster-val c)) × WT (roster-val c)
-  roster-typed c g = array-lawful 𝓤 H A W row (LL.lawful T.the-type T′.the-laws 𝓤 H A W) 64 .typed c _ g .0
-
-  pub roster-makes : Makes 𝓤 H A roster (Is roster)
-  roster-makes = array-makes 𝓤 H A W row (LL.makes T.the-type T′.the-plain 𝓤 H A) 64
-
   pub typed : (w : Worker) → Is row w (vals w) → T (hasTy T′.mir (val w)) × WT (val w)
   typed w g = LL.lawful T.the-type T′.the-laws 𝓤 H A W .typed w _ g .0
 
@@ -80,10 +61,6 @@ module _ {M : Type 1} (𝓤 : URA M) (H : Heap 𝓤) (A : Atoms 𝓤) (W : Given
 module _ {M : Type 1} {𝓤 : URA M} {H : Heap 𝓤} {A : Atoms 𝓤} {K : Type 0} {W : Given 𝓤 H A} {Γ : List (Item 𝓤)} {G : Goal 𝓤 H} {P : Fml} where
   pub arg-worker : K → (w : Worker) → Is row w (vals w) → Step K W (‵ (fsep (row .own w (vals w)) P) ∷ Γ) G (‵ P ∷ Γ) G
   arg-worker t w is = arg t row (LL.makes T.the-type T′.the-plain 𝓤 H A) w _ is
-
-  pub arg-roster : K → (c : List Worker) → Is roster c (roster-val c ∷ [])
-      → Step K W (‵ (fsep (roster .own c (roster-val c ∷ [])) P) ∷ Γ) G (‵ P ∷ Γ) G
-  arg-roster t c is = arg t roster (roster-makes 𝓤 H A W) c _ is
 
 -- ---- a worker's seat, put together from a floor, the list's length and the worker's number
 abbrev pub seat-vals : Seat → List Val
@@ -128,25 +105,3 @@ module _ {M : Type 1} {𝓤 : URA M} {H : Heap 𝓤} {A : Atoms 𝓤} {K : Type 
       use1 W (‵ (cellAt fullShare (row .mir) (vals w) b (place size o i))) (W .laws .at-raw fullShare T′.mir b (place size o i) (val w)) $
       move t (1 ∷ []) $ drop t $ owned t row (Is row) (LL.makes T.the-type T′.the-plain 𝓤 H A) w _ is $ move t (1 ∷ 0 ∷ []) $
       elem-put t row fullShare ys i w (vals w) b o l $ s)
-
--- ---- the array in a local: its elements, to be read and written one by one, and the whole again
-module _ {M : Type 1} {𝓤 : URA M} {H : Heap 𝓤} {A : Atoms 𝓤} {K : Type 0} {W : Given 𝓤 H A} {Γ : List (Item 𝓤)} {G : Goal 𝓤 H} where
-  pub roster-opens : K → (c : List Worker) (b : ℕ) → Is roster c (roster-val c ∷ [])
-      → Step K W (‵ (row-of row fullShare c b 0) ∷ Γ) G (‵ (fat fullShare (tyArray T′.mir 64) b 0 (roster-val c)) ∷ Γ) G
-  unfolding partOf
-  roster-opens t c b is = step (λ s.
-      use1 W (‵ (cellAt fullShare (roster .mir) (roster-val c ∷ []) b 0)) (W .laws .at-raw fullShare (tyArray T′.mir 64) b 0 (roster-val c)) $
-      owned t roster (Is roster) (roster-makes 𝓤 H A W) c _ is $ move t (1 ∷ 0 ∷ []) $ fjoin t $
-      fpack t (List Val) (λ vs. fsep (cellAt fullShare (roster .mir) vs b 0) (roster .own c vs)) (roster-val c ∷ []) $
-      use1 W (‵ (arr-parts (shares row) 64 .part fullShare c b 0)) (array-apart 𝓤 H A W row fullShare tt 64 c b 0) $ fsplit t $ drop t $ s)
-
-  pub roster-closes : K → (c : List Worker) (b : ℕ) → length c ≡ 64 → (Is roster c (roster-val c ∷ [])
-      → Seq K W (‵ (fat fullShare (tyArray T′.mir 64) b 0 (roster-val c)) ∷ Γ) G) → Seq K W (‵ (row-of row fullShare c b 0) ∷ Γ) G
-  unfolding partOf
-  roster-closes t c b long k =
-      feqI t ℕ (length c) 64 long $ fjoin t $ use1 W (‵ (partAt roster fullShare c b 0)) (array-whole 𝓤 H A W row fullShare 64 c b 0) $
-      fpick t (λ vs. fsplit t $ move t (1 ∷ []) $
-      facts t roster (Is roster) (shows 𝓤 H A roster) c vs (λ is.
-      rewrite t 0 (λ (us : List Val). ‵ (cellAt fullShare (roster .mir) us b 0)) (roster-tells c vs is) refl $
-      use1 W (‵ (fat fullShare (tyArray T′.mir 64) b 0 (roster-val c))) (W .laws .raw-at fullShare (tyArray T′.mir 64) b 0 (roster-val c)) $
-      k (subst (Is roster c) (roster-tells c vs is) is)))

@@ -1,7 +1,7 @@
 -- The walk of every start on the lent list, whatever it brings and whatever its core is:
 --     fn start(board: &[u64], records: &mut [Worker], floor: Floor, worker: usize, what: B) -> Outcome {
 --         let listed = records.len(); let w = take_at(records, worker); let seat = Seat { floor, listed, worker };
---         let done = CORE(board, seat, w, what); put_at(records, worker, done.worker); Outcome { refusal: done.refusal, floor: done.floor } }
+--         let done = CORE(board, seat, w, what); put_at(records, worker, done.worker); Outcome { floor: done.floor, refusal: done.refusal } }
 -- Assumes `Given`, and that the leaves and the core meet their contracts.
 use mathlib.Core.Path.{_≡_, refl}
 use Prim.Native.Nat.{ℕ, _*_}
@@ -27,7 +27,7 @@ use denote.Builtin.{u64, usize, SliceRefOf, SliceRefMutOf}
 use denote.Ref.{now}
 use denote.Slice.{sliceTy, MutSlice, ShrSlice, slice-vals, mut-slice-tells, shr-slice-tells, shr-slice-copy}
 use denote.Signature.{plain}
-use denote.Steps.{owned, nothing}
+use denote.Steps.{only, owned, nothing}
 use denote.Struct.Laws as LL
 use denote.Triple.Spec.{Meets, tripleOf}
 use denote.Triple.Clauses.{Clauses, Ended, closing}
@@ -122,8 +122,8 @@ module _ (B : Plain) where
         (seq (call nm (copy (place 1 []) ∷ copy (place 8 []) ∷ copy (place 7 []) ∷ copy (place 5 []) ∷ []) (place 9 []))
         (seq (assign (place 13 []) (addrOf (place 2 (field 0 ∷ deref T′.mir ∷ []))))
         (seq (assign (place 14 []) (aggregate (copy (place 13 []) ∷ copy (place 2 (field 1 ∷ [])) ∷ [])))
-        (seq (call put-def.name (copy (place 14 []) ∷ copy (place 4 []) ∷ copy (place 9 (field 2 ∷ [])) ∷ []) (place 12 []))
-        (seq (assign (place 0 []) (aggregate (copy (place 9 (field 0 ∷ [])) ∷ copy (place 9 (field 1 ∷ [])) ∷ []))) return)))))))));
+        (seq (call put-def.name (copy (place 14 []) ∷ copy (place 4 []) ∷ copy (place 9 (field 0 ∷ [])) ∷ []) (place 12 []))
+        (seq (assign (place 0 []) (aggregate (copy (place 9 (field 1 ∷ [])) ∷ copy (place 9 (field 2 ∷ [])) ∷ []))) return)))))))));
   }
 
   abbrev stayed : Stays (ended .signature .params) (ended .kept)
@@ -194,17 +194,17 @@ module _ (B : Plain) where
       -- [κ₀'s token and true; nothing; what the board owns; what the list owns; κ₁'s token; what the plain ones own; _14; …]
       let fields = LL.owed O.the-type O′.the-laws o _ o-is in
       let told-is : Is N.the-row (startTold o) (LL.vals N.the-type N′.the-laws (startTold o)) =
-      LL.owes N.the-type N′.the-laws (startTold o) (fields .0, (fields .1 .0, tt)) in
+      LL.owes N.the-type N′.the-laws (startTold o) (fields .1 .0, (fields .1 .1 .0, tt)) in
       gets ! (v 6 9) refl (LL.lawful O.the-type O′.the-laws 𝓤 H A W .typed o _ o-is .0) $
       relends ! (v 6 2) (v 6 13) (v 6 14) refl (are .1 .0 .0 .1 .0) $
-      move ! (3 ∷ 4 ∷ []) $ put-call ! mem run (fmOf 𝓤 H (W .laws) 𝓣) puts (a .1 .0) i (are .1 .1 .1 .0 .1) (o .worker) (fields .1 .1 .0)
+      move ! (3 ∷ 4 ∷ []) $ put-call ! mem run (fmOf 𝓤 H (W .laws) 𝓣) puts (a .1 .0) (only (slice-vals (a .1 .0))) i (are .1 .1 .1 .0 .1) (o .worker) (fields .0)
       (and-then ! (var ! (v 5 14) refl)
-      (and-then ! (var ! (v 5 4) refl) (and-then ! (part ! (v 5 9) 2 refl) (no-more !))))
+      (and-then ! (var ! (v 5 4) refl) (and-then ! (part ! (v 5 9) 0 refl) (no-more !))))
       (λ us same e₃.
       -- [κ₁'s token; the list's last state; κ₀'s token and true; nothing; what the board owns; what the plain ones own; _14; …]
       gets ! (v 6 12) refl (tt, tt) $
-      sets ! (agg ! (and-then ! (part ! (v 6 9) 0 refl)
-      (and-then ! (part ! (v 6 9) 1 refl) (no-more !)))) (v 6 0) refl
+      sets ! (agg ! (and-then ! (part ! (v 6 9) 1 refl)
+      (and-then ! (part ! (v 6 9) 2 refl) (no-more !)))) (v 6 0) refl
       (LL.lawful N.the-type N′.the-laws 𝓤 H A W .typed (startTold o) _ told-is .0) $
       returns ! (look ! (v 6 0) refl) $ keep ! (span 6 (2 * 15) (2 ∷ 0 ∷ 1 ∷ 4 ∷ 5 ∷ [])) $
       gone ! (

@@ -4,11 +4,12 @@ use Prim.Native.Nat.{ℕ}
 use mathlib.Core.List.{List}
 use lib.ListN.{set}
 use Rattle.turn.specs.declared.Worker.{Worker}
+use Rattle.turn.specs.declared.Said.{Said}
 use Rattle.turn.specs.Turn.{After, after}
 use Rattle.engine.specs.declared.Floor.{Floor}
 use Rattle.engine.specs.declared.Seat.{Seat}
 use Rattle.engine.specs.declared.Started.{Started}
-use Rattle.engine.specs.Calls.{recordIn, seatIn, turnCall}
+use Rattle.engine.specs.Calls.{recordIn, seatIn, tryCall, turnCall}
 use Rattle.floor.specs.declared.Outcome.{Outcome}
 use Rattle.floor.specs.declared.TurnOutcome.{TurnOutcome}
 use Rattle.floor.specs.Told.{startTold, turnTold}
@@ -27,6 +28,12 @@ abbrev pub startIn : (Seat → Worker → Started) → List Worker → Floor →
 startIn start records f i =
     let x = start (seatIn f records i) (recordIn records i) in
     onList (set records i (x .worker)) (startTold x)
+
+-- one turn as it is tried: the record goes back into the list
+abbrev pub sayIn : List ℕ → List Worker → Floor → ℕ → After (OnList Said)
+sayIn board records f i =
+    let x = tryCall board (seatIn f records i) (recordIn records i) in
+    after (x .words) (onList (set records i (x .handed .worker)) (x .handed .said))
 
 -- one turn: the record goes back into the list
 abbrev pub turnIn : List ℕ → List Worker → Floor → ℕ → After (OnList TurnOutcome)

@@ -1,4 +1,5 @@
 pub mod Lent
+pub mod Running
 pub mod Told
 pub mod Calls
 pub mod Promises

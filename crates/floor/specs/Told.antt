@@ -7,11 +7,10 @@ use Rattle.turn.specs.declared.Progress.{Progress}
 use Rattle.turn.specs.declared.Progress.the-variants.{GoesOn, Ended}
 use Rattle.turn.specs.declared.Answer.{Answer}
 use Rattle.turn.specs.declared.Answer.the-variants.{Refused, Done}
-use Rattle.engine.specs.declared.Opened.{Opened}
 use Rattle.engine.specs.declared.Started.{Started}
-use Rattle.engine.specs.declared.Ran.{Ran}
 use Rattle.engine.specs.declared.Counted.{Counted}
 use Rattle.engine.specs.declared.Counted.the-variants.{Refusal, Lots}
+use Rattle.floor.specs.declared.run.Running.{Running}
 use Rattle.floor.specs.declared.Outcome.{Outcome}
 use Rattle.floor.specs.declared.TurnOutcome.{TurnOutcome}
 use Rattle.floor.specs.declared.RunOutcome.{RunOutcome}
@@ -46,16 +45,12 @@ turnTold (Done report) =
       answer = endedWith (report .progress);
     }
 
--- an opening's answer: the number, and the floor as it now stands
-abbrev pub openTold : Opened → Outcome
-openTold o = record { refusal = o .refusal; floor = o .floor }
-
--- a start's answer, likewise
+-- a start's answer: the number, and the floor as it now stands
 abbrev pub startTold : Started → Outcome
 startTold s = record { refusal = s .refusal; floor = s .floor }
 
 -- a run's answer: the counts of the turns done, and the number that stopped it, or 0
-abbrev pub runTold : Ran → RunOutcome
+abbrev pub runTold : Running → RunOutcome
 runTold r = record { totals = r .totals; stop = r .stop }
 
 -- a count's answer

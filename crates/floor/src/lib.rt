@@ -15,25 +15,26 @@ use engine::Seat;
 use engine::Totals;
 use turn::Worker;
 
-mod list; // records out of the list and back
+mod list; // records out of the list and back, and a turn of one of them
+mod run; // a run that is under way
 mod told; // answers that cross to C
 
-// The number of refusal, or 0, and the floor as it now stands.
+// The floor as it now stands, and the number of refusal, or 0.
 #[repr(C)]
 pub struct Outcome {
-    pub refusal: u8,
     pub floor: Floor,
+    pub refusal: u8,
 }
 
 // The number of refusal, or 0; and of a turn that is done its action (1 read, 2 store, 3 won, 4 lost), whether the call ended and with
 // which answer, and whether it was a full round.
 #[repr(C)]
 pub struct TurnOutcome {
+    pub answer: u64,
     pub refusal: u8,
     pub action: u8,
     pub ended: bool,
     pub full: bool,
-    pub answer: u64,
 }
 
 // What the turns done come to, and the number that stopped the run, or 0.
@@ -50,11 +51,11 @@ pub struct Part {
     pub words: usize,
 }
 
-// The number of refusal, or 0, and the lots on the board.
+// The lots on the board, and the number of refusal, or 0.
 #[repr(C)]
 pub struct CountOutcome {
-    pub refusal: u8,
     pub lots: usize,
+    pub refusal: u8,
 }
 
 // Opens a floor. `floor` is the one that stood before, and comes back where the opening is refused.
@@ -69,11 +70,12 @@ pub extern "C" fn desk_open_floor(
         ≡ openCall (now (board .entry)) floor (now (records .entry)) (length (now (records .entry))) plan ⌝ }
 {
     let listed = records.len();
-    let all = list::load(records);
-    let done = engine::open_floor(board, floor, all, listed, plan);
-    let left = told::opened_records(done);
-    list::store(records, left);
-    told::opened(done)
+    let laid = engine::open_floor(board, floor, listed, plan);
+    list::make_idle(records, laid.idle);
+    Outcome {
+        floor: laid.floor,
+        refusal: laid.refusal,
+    }
 }
 
 // Starts a look on a worker.
@@ -98,8 +100,8 @@ pub extern "C" fn desk_start_look(
     let done = engine::start_look(board, seat, w, lot);
     list::put_at(records, worker, done.worker);
     Outcome {
-        refusal: done.refusal,
         floor: done.floor,
+        refusal: done.refusal,
     }
 }
 
@@ -125,8 +127,8 @@ pub extern "C" fn desk_start_insert(
     let done = engine::start_insert(board, seat, w, bid);
     list::put_at(records, worker, done.worker);
     Outcome {
-        refusal: done.refusal,
         floor: done.floor,
+        refusal: done.refusal,
     }
 }
 
@@ -152,8 +154,8 @@ pub extern "C" fn desk_start_remove(
     let done = engine::start_remove(board, seat, w, lot);
     list::put_at(records, worker, done.worker);
     Outcome {
-        refusal: done.refusal,
         floor: done.floor,
+        refusal: done.refusal,
     }
 }
 
@@ -167,16 +169,8 @@ pub extern "C" fn desk_turn(
 ) -> TurnOutcome
     ensures { λ r. ⌜ TurnLeft (now (board .entry)) (now (records .entry)) floor worker (now (board .exit)) (now (records .exit)) r ⌝ }
 {
-    let listed = records.len();
-    let w = list::take_at(records, worker);
-    let seat = Seat {
-        floor,
-        listed,
-        worker,
-    };
-    let done = engine::turn(board, seat, w);
-    list::put_at(records, worker, done.worker);
-    told::turn(done)
+    let said = list::turn_at(board, records, floor, worker);
+    told::turn(said)
 }
 
 // Runs a list of turns, each a worker's number, until one is refused.
@@ -190,12 +184,17 @@ pub extern "C" fn desk_run(
     ensures { λ r. ⌜ after (now (board .exit)) (record { records = now (records .exit); totals = r .totals; stop = r .stop })
         ≡ runCall (now (board .entry)) floor (now (records .entry)) (length (now (records .entry))) (now (turns .entry)) ⌝ }
 {
+    let words = board.len();
     let listed = records.len();
-    let all = list::load(records);
-    let done = engine::run(board, floor, all, listed, turns);
-    let left = told::run_records(done);
-    list::store(records, left);
-    told::run(done)
+    let count = turns.len();
+    let mut run = run::begin(floor, words, listed, count);
+    while run.at < run.end {
+        let worker = run::whose(turns, run.at);
+        let said = list::turn_at(board, records, floor, worker);
+        let next = run::go_on(run, said);
+        run = next;
+    }
+    told::run(run)
 }
 
 // The bucket of a lot, as that part of the lent board; an empty part where the show is refused.

@@ -1,9 +1,17 @@
 // Records out of the lent list and back into it. Past its end there is nothing: a blank is read, and nothing is written.
 ghost use mathlib.Core.Path.{_≡_};
-ghost use lib.ListN.{getD, set, replicate};
+ghost use mathlib.Core.Bool.{cond};
+ghost use lib.Dec.{ltb};
+ghost use lib.ListN.{getD, set};
+ghost use Rattle.turn.specs.Turn.{after};
 ghost use Rattle.engine.specs.Calls.{blank};
-ghost use Rattle.floor.specs.Lent.{loaded, over};
+ghost use Rattle.floor.specs.Lent.{idled};
+ghost use Rattle.floor.specs.Calls.{onList, sayIn};
+use engine::Floor;
+use engine::Seat;
+use turn::Said;
 use turn::Worker;
+use turn::record;
 
 pub fn take_at(records: &[Worker], worker: usize) -> Worker
     ensures { λ r. ⌜ r ≡ getD (now (records .entry)) worker blank ⌝ }
@@ -26,33 +34,41 @@ pub fn put_at(records: &mut [Worker], worker: usize, w: Worker)
     }
 }
 
-pub fn blanks() -> [Worker; 64]
-    ensures { λ r. ⌜ r ≡ replicate 64 blank ⌝ }
+fn least(count: usize, listed: usize) -> usize
+    ensures { λ r. ⌜ r ≡ cond (ltb count listed) count listed ⌝ }
 {
-    let w = engine::blank();
-    [w; 64]
+    if count < listed {
+        return count;
+    }
+    listed
 }
 
-// All records of the list, and blanks behind them.
-pub fn load(records: &[Worker]) -> [Worker; 64]
-    ensures { λ r. ⌜ r ≡ loaded (now (records .entry)) ⌝ }
+// Makes so many records idle, as far as the list goes: with an end within the list no lap tests it again.
+pub fn make_idle(records: &mut [Worker], count: usize)
+    ensures { λ _. ⌜ now (records .exit) ≡ idled count (now (records .entry)) ⌝ }
 {
-    let mut all = blanks();
+    let w = record::idle();
+    let listed = records.len();
+    let end = least(count, listed);
     let mut k = 0;
-    while k < 64 {
-        all[k] = take_at(records, k);
+    while k < end {
+        put_at(records, k, w);
         k += 1;
     }
-    all
 }
 
-// The records of an array, as far as the list goes.
-pub fn store(records: &mut [Worker], all: [Worker; 64])
-    ensures { λ _. ⌜ now (records .exit) ≡ over all (now (records .entry)) ⌝ }
+// One turn of a worker of the list: its record is taken out, has its turn, and is put back.
+pub fn turn_at(board: &mut [u64], records: &mut [Worker], floor: Floor, worker: usize) -> Said
+    ensures { λ r. ⌜ after (now (board .exit)) (onList (now (records .exit)) r) ≡ sayIn (now (board .entry)) (now (records .entry)) floor worker ⌝ }
 {
-    let mut k = 0;
-    while k < 64 {
-        put_at(records, k, all[k]);
-        k += 1;
-    }
+    let listed = records.len();
+    let w = take_at(records, worker);
+    let seat = Seat {
+        floor,
+        listed,
+        worker,
+    };
+    let tried = engine::try_turn(board, seat, w);
+    put_at(records, worker, tried.worker);
+    tried.said
 }

@@ -1,19 +1,17 @@
-// What the engine's calls hand back, as it goes into the list and out to C.
+// What the engine's calls hand back, as it goes out to C.
 ghost use mathlib.Core.Path.{_≡_};
-ghost use Rattle.floor.specs.Told.{openTold, runTold, actionNumber, isEnded, endedWith, turnTold, countTold};
+ghost use Rattle.turn.specs.declared.Answer.the-variants.{Refused, Done};
+ghost use Rattle.turn.specs.Turn.{answerOf};
+ghost use Rattle.floor.specs.Told.{actionNumber, isEnded, endedWith, turnTold, runTold, countTold};
 use crate::CountOutcome;
-use crate::Outcome;
 use crate::RunOutcome;
 use crate::TurnOutcome;
+use crate::run::Running;
 use engine::Counted;
-use engine::Opened;
-use engine::Ran;
 use turn::Action;
-use turn::Answer;
 use turn::Progress;
 use turn::Report;
-use turn::Turned;
-use turn::Worker;
+use turn::Said;
 
 const READ: u8 = 1;
 
@@ -53,74 +51,48 @@ fn ended_with(p: Progress) -> u64
 }
 
 fn done(r: Report) -> TurnOutcome
-    ensures { λ t. ⌜ t ≡ turnTold (Answer.Done r) ⌝ }
+    ensures { λ t. ⌜ t ≡ turnTold (Done r) ⌝ }
 {
     let a = r.action;
     let p = r.progress;
     TurnOutcome {
+        answer: ended_with(p),
         refusal: 0,
         action: action(a),
         ended: is_ended(p),
         full: r.full,
-        answer: ended_with(p),
     }
 }
 
 fn refused(number: u8) -> TurnOutcome
-    ensures { λ t. ⌜ t ≡ turnTold (Answer.Refused number) ⌝ }
+    ensures { λ t. ⌜ t ≡ turnTold (Refused number) ⌝ }
 {
     TurnOutcome {
+        answer: 0,
         refusal: number,
         action: 0,
         ended: false,
         full: false,
-        answer: 0,
     }
 }
 
-pub fn turn(t: Turned) -> TurnOutcome
-    ensures { λ r. ⌜ r ≡ turnTold (t .answer) ⌝ }
+pub fn turn(said: Said) -> TurnOutcome
+    ensures { λ r. ⌜ r ≡ turnTold (answerOf said) ⌝ }
 {
-    let answer = t.answer;
-    match answer {
-        Answer::Refused(number) => refused(number),
-        Answer::Done(report) => done(report),
+    let report = said.report;
+    if said.refusal == 0 {
+        return done(report);
     }
+    refused(said.refusal)
 }
 
-// The array by itself, for a caller whose proof is a walk: there an array in a struct has another form than an array alone.
-pub fn opened_records(o: Opened) -> [Worker; 64]
-    ensures { λ r. ⌜ r ≡ o .records ⌝ }
+pub fn run(run: Running) -> RunOutcome
+    ensures { λ r. ⌜ r ≡ runTold run ⌝ }
 {
-    let records = o.records;
-    records
-}
-
-pub fn opened(o: Opened) -> Outcome
-    ensures { λ r. ⌜ r ≡ openTold o ⌝ }
-{
-    let floor = o.floor;
-    Outcome {
-        refusal: o.refusal,
-        floor,
-    }
-}
-
-// The same of a run.
-pub fn run_records(o: Ran) -> [Worker; 64]
-    ensures { λ r. ⌜ r ≡ o .records ⌝ }
-{
-    let records = o.records;
-    records
-}
-
-pub fn run(o: Ran) -> RunOutcome
-    ensures { λ r. ⌜ r ≡ runTold o ⌝ }
-{
-    let totals = o.totals;
+    let totals = run.totals;
     RunOutcome {
         totals,
-        stop: o.stop,
+        stop: run.stop,
     }
 }
 
@@ -129,9 +101,9 @@ pub fn count(c: Counted) -> CountOutcome
 {
     match c {
         Counted::Refusal(number) => CountOutcome {
-            refusal: number,
             lots: 0,
+            refusal: number,
         },
-        Counted::Lots(lots) => CountOutcome { refusal: 0, lots },
+        Counted::Lots(lots) => CountOutcome { lots, refusal: 0 },
     }
 }

@@ -65,7 +65,7 @@ unfolding
     Calls.openCall Calls.startCall Calls.turned Calls.turnCall Calls.runFrom Calls.runCall
     Refusals.wrongFloor Refusals.wrongSizes
     Refusals.openNumber Refusals.startNumber Refusals.eachNumber Refusals.turnNumber Refusals.runNumber
-    Turn.turnRefusal Record.broken Record.isIdle Record.sound Record.mayStand Record.ticketFits Record.heldFits Record.wordFits
+    Turn.turnRefusal Record.broken Record.isIdle Record.sound Record.fits Record.mayStand Record.ticketFits Record.heldFits Record.wordFits
     Bucket.brokenBucket Places.turn Places.lookFound Places.lookEmpty Places.findSlot Places.nextSlot Places.nextKey
     Places.after1 Places.after2 Places.after3 Places.after4 Places.after5 Places.after11 Places.after12
     Board.openedBoard Word.version Word.markOf Word.byte7 Word.setMark Word.bump Word.firstEmpty Word.wellFormed

@@ -15,9 +15,8 @@ use Rattle.turn.specs.declared.Turned.{Turned}
 use Rattle.turn.specs.Turn.{After}
 use Rattle.turn.specs.Turn as Turn
 use Rattle.engine.specs.declared.Totals.{Totals}
-use Rattle.engine.specs.declared.Ran.{Ran}
 use Rattle.engine.specs.Refusals.{wrongFloor, wrongSizes, turnNumber, runNumber}
-use Rattle.engine.specs.Calls.{tallied, noTurns, standing, goOn, turned, turnCall, runFrom, runCall}
+use Rattle.engine.specs.Calls.{Ran, tallied, noTurns, standing, goOn, turned, turnCall, runFrom, runCall}
 use Rattle.engine.proofs.Stops.{run-turn-is-turn}
 use Rattle.engine.proofs.Keeps.{turn-keeps}
 use Rattle.history.specs.Trace.{Entry, total, lostSwaps, changeOf, fullOf}

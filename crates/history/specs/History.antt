@@ -15,12 +15,10 @@ use Rattle.turn.specs.Turn.{After}
 use Rattle.engine.specs.declared.Floor.{Floor}
 use Rattle.engine.specs.declared.Plan.{Plan}
 use Rattle.engine.specs.declared.Seat.{Seat}
-use Rattle.engine.specs.declared.Opened.{Opened}
 use Rattle.engine.specs.declared.Started.{Started}
-use Rattle.engine.specs.declared.Ran.{Ran}
 use Rattle.engine.specs.Board.{bucketOf}
 use Rattle.engine.specs.Refusals.{openNumber, runNumber}
-use Rattle.engine.specs.Calls.{planned, openCall, lookCall, insertCall, removeCall, turnCall, runCall, recordIn, seatIn}
+use Rattle.engine.specs.Calls.{Opened, Ran, planned, openCall, lookCall, insertCall, removeCall, turnCall, runCall, recordIn, seatIn}
 use Rattle.history.specs.Trace.{Entry}
 
 -- ---- the state, and the opening that it comes from

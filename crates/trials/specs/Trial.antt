@@ -19,11 +19,10 @@ use Rattle.turn.specs.Turn.{After}
 use Rattle.engine.specs.declared.Floor.{Floor}
 use Rattle.engine.specs.declared.Plan.{Plan}
 use Rattle.engine.specs.declared.Seat.{Seat}
-use Rattle.engine.specs.declared.Opened.{Opened}
 use Rattle.engine.specs.declared.Started.{Started}
 use Rattle.engine.specs.declared.Totals.{Totals}
 use Rattle.engine.specs.Board.{bucketAt}
-use Rattle.engine.specs.Calls.{openCall, lookCall, insertCall, removeCall, turnCall, tallied, noTurns, blank, recordIn, seatIn}
+use Rattle.engine.specs.Calls.{Opened, openCall, lookCall, insertCall, removeCall, turnCall, tallied, noTurns, blank, recordIn, seatIn}
 
 -- ---- a trial: what is asked of the desk, and beside it what is said to come of it
 

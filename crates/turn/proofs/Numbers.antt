@@ -1,14 +1,14 @@
 -- The number that an answer tells is the one that the call's tests come to. Assumes nothing.
 use Prim.Native.Nat.{ℕ}
 use mathlib.Core.Bool.{cond}
-use mathlib.Core.Path.{_≡_, refl, sym, ap, _∙_}
+use mathlib.Core.Path.{_≡_, refl, sym, _∙_}
 use mathlib.Core.List.{List}
 use lib.Dec.{eqb}
 use borrow.Author.Tests.{eqb-true}
 use Rattle.mark.proofs.Choices.{by-cases}
 use Rattle.turn.specs.declared.Worker.{Worker}
 use Rattle.turn.specs.declared.Turned.{Turned}
-use Rattle.turn.specs.Turn.{After, after, numberOf, refusing, turnRefusal, takeTurn, TurnTaken}
+use Rattle.turn.specs.Turn.{After, after, numberOf, refusing}
 
 -- the number in what a turn left
 abbrev pub numberIn : After Turned → ℕ
@@ -19,8 +19,3 @@ pub number-told :
     (n : ℕ) (done : After Turned) (b : List ℕ) (w : Worker) → numberIn done ≡ 0 → numberIn (cond (eqb n 0) done (after b (refusing n w))) ≡ n
 number-told n done b w none =
     by-cases (λ (x : After Turned). numberIn x ≡ n) (eqb n 0) _ _ (λ is. none ∙ sym (eqb-true n 0 is)) (λ isnot. refl)
-
--- the promise of a turn, from its equation
-pub turn-taken : (b : List ℕ) (w : Worker) (c : List ℕ) (r : Turned) → after c r ≡ takeTurn b w → TurnTaken b w c r
-unfolding takeTurn
-turn-taken b w c r whole = record { whole = whole; number = ap numberIn whole ∙ number-told (turnRefusal b w) _ b w refl }

@@ -1,18 +1,18 @@
 -- What the tests of a record, of a bucket and of a turn say when they let it through. Assumes nothing.
 use Prim.Native.Nat.{ℕ, _≤_, _<_}
-use mathlib.Core.Bool.{Bool, true, false, _||_, not, and-eq-true-iff, or-true}
-use mathlib.Core.Path.{_≡_, refl, sym}
+use mathlib.Core.Bool.{Bool, true, false, cond, _||_, not, and-eq-true-iff, or-true}
+use mathlib.Core.Path.{_≡_, refl, sym, subst, _∙_}
 use mathlib.Core.List.{List}
 use native.Mathlib.Omega.{arith}
 use lib.ListN.{length}
-use borrow.Author.Tests.{eqb-true, leb-true, eq-eqb, le-leb, not-false}
+use borrow.Author.Tests.{eqb-true, leb-true, eq-eqb, ne-eqb, le-leb, not-false}
 use Rattle.mark.specs.Word.{wellFormed}
-use Rattle.mark.proofs.Choices.{passes}
+use Rattle.mark.proofs.Choices.{passes, by-cases, not-both, first-fails}
 use Rattle.turn.specs.declared.Worker.{Worker}
-use Rattle.turn.specs.Worker.{isIdle, mayStand, ticketFits, heldFits, wordFits, sound, broken}
+use Rattle.turn.specs.Worker.{isIdle, mayStand, ticketFits, heldFits, wordFits, fits, sound, broken}
 use Rattle.turn.specs.Bucket.{cell, markCell, spareCell, brokenBucket}
 use Rattle.turn.specs.Ready.{Ready}
-use Rattle.turn.specs.Turn.{turnRefusal}
+use Rattle.turn.specs.Turn.{bucketRefusal, turnRefusal}
 use Rattle.turn.proofs.Works.{Works, looking, inserting, claiming, filling, beginning, removing, works}
 
 -- ---- records
@@ -27,18 +27,24 @@ pub record Sound (w : Worker) : Type 0 where
 
 -- the test says all of them
 pub sound-parts : (w : Worker) → sound w ≡ true → Sound w
-unfolding sound
+unfolding sound fits
 sound-parts w is =
     let a = and-eq-true-iff _ _ .0 is in
     let b = and-eq-true-iff _ _ .0 (a .1) in
     let c = and-eq-true-iff _ _ .0 (b .1) in
     let d = and-eq-true-iff _ _ .0 (c .1) in
-    record { stands = a .0; ticket = b .0; held = c .0; slot = leb-true _ 2 (d .0); word = d .1 }
+    record { stands = b .0; ticket = c .0; held = d .0; slot = leb-true _ 2 (a .0); word = d .1 }
 
 -- and they say the test
 pub sound-whole : (w : Worker) → Sound w → sound w ≡ true
-unfolding sound
-sound-whole w s = rw (s .stands, s .ticket, s .held, le-leb (w .slot) 2 (s .slot), s .word)
+unfolding sound fits
+sound-whole w s = rw (le-leb (w .slot) 2 (s .slot), s .stands, s .ticket, s .held, s .word)
+
+-- a sound record is not idle
+pub sound-busy : (w : Worker) → Sound w → isIdle w ≡ false
+unfolding isIdle mayStand
+sound-busy w s =
+    first-fails _ _ (ne-eqb (w .kind) 0 (λ none. not-both _ refl (subst (λ (k : ℕ). mayStand k (w .place) ≡ true) none (s .stands))))
 
 other-holds : (t u : Bool) → not (t || u) ≡ false → t ≡ false → u ≡ true
 other-holds t true h f = refl
@@ -54,6 +60,19 @@ not-broken w is busy = sound-parts w (other-holds _ _ is busy)
 pub sound-not-broken : (w : Worker) → Sound w → broken w ≡ false
 unfolding broken
 sound-not-broken w s = rw (sound-whole w s, or-true (isIdle w))
+
+-- what is chosen of a broken, a busy and an idle record, by the test of an idle one first
+pub by-idleness :
+    (w : Worker) (x is-broken is-busy is-idle : ℕ)
+    → x ≡ cond (isIdle w) is-idle (cond (sound w) is-busy is-broken)
+    → x ≡ cond (broken w) is-broken (cond (not (isIdle w)) is-busy is-idle)
+unfolding broken
+by-idleness w x is-broken is-busy is-idle e = e ∙ sorts (isIdle w) (sound w)
+  where
+    sorts : (t u : Bool) → cond t is-idle (cond u is-busy is-broken) ≡ cond (not (t || u)) is-broken (cond (not t) is-busy is-idle)
+    sorts true u = refl
+    sorts false true = refl
+    sorts false false = refl
 
 -- ---- buckets
 
@@ -83,6 +102,13 @@ pub record Accepted (b : List ℕ) (w : Worker) : Type 0 where
   pub sound : Sound w
   pub whole : Whole b
   pub busy : isIdle w ≡ false
+
+-- the number of refusal by the test that an accepted turn passes first
+pub by-soundness : (b : List ℕ) (w : Worker) (x : ℕ) → x ≡ cond (sound w) (bucketRefusal b) (cond (isIdle w) 6 3) → x ≡ turnRefusal b w
+unfolding turnRefusal broken
+by-soundness b w x e = e ∙ by-cases (λ (n : ℕ). n ≡ turnRefusal b w) (sound w) _ _
+    (λ is. rw (is, sound-busy w (sound-parts w is)))
+    (λ isnot. by-cases (λ (n : ℕ). n ≡ turnRefusal b w) (isIdle w) _ _ (λ idle. rw idle) (λ busy. rw (busy, isnot)))
 
 -- that is a turn with no number of refusal
 pub accepted : (b : List ℕ) (w : Worker) → turnRefusal b w ≡ 0 → Accepted b w

@@ -1,10 +1,15 @@
 -- One turn of one worker on the bucket of its lot, refused or done.
 use Prim.Native.Nat.{ℕ}
-use mathlib.Core.Bool.{cond}
-use mathlib.Core.Path.{_≡_}
+use mathlib.Core.Bool.{cond, false}
 use mathlib.Core.List.{List}
 use lib.Dec.{eqb}
 use Rattle.turn.specs.declared.Worker.{Worker}
+use Rattle.turn.specs.declared.Action.the-variants.{Read}
+use Rattle.turn.specs.declared.Progress.the-variants.{GoesOn}
+use Rattle.turn.specs.declared.Report.{Report}
+use Rattle.turn.specs.declared.Stepped.{Stepped}
+use Rattle.turn.specs.declared.Said.{Said}
+use Rattle.turn.specs.declared.Tried.{Tried}
 use Rattle.turn.specs.declared.Answer.{Answer}
 use Rattle.turn.specs.declared.Answer.the-variants.{Refused, Done}
 use Rattle.turn.specs.declared.Turned.{Turned}
@@ -12,9 +17,13 @@ use Rattle.turn.specs.Worker.{isIdle, broken}
 use Rattle.turn.specs.Bucket.{brokenBucket}
 use Rattle.turn.specs.Places.{Step, turn}
 
+-- 7 for a broken bucket, or 0
+abbrev pub bucketRefusal : List ℕ → ℕ
+bucketRefusal b = cond (brokenBucket b) 7 0
+
 -- Order of a turn: ".. 3, 6, 7": a broken record, an idle worker, a broken bucket; 0 where it is none of them
 unfoldable pub turnRefusal : List ℕ → Worker → ℕ
-turnRefusal b w = cond (broken w) 3 (cond (isIdle w) 6 (cond (brokenBucket b) 7 0))
+turnRefusal b w = cond (broken w) 3 (cond (isIdle w) 6 (bucketRefusal b))
 
 -- 01's number for each case of an answer: a refusal's own, and 0 for a turn that is done
 abbrev pub numberOf : Answer → ℕ
@@ -38,12 +47,29 @@ refusing number w = record { worker = w; answer = Refused number }
 abbrev pub doing : Step → Turned
 doing s = record { worker = s .stepped .worker; answer = Done (s .stepped .report) }
 
--- one turn, refused or done
-unfoldable pub takeTurn : List ℕ → Worker → After Turned
-takeTurn b w =
-    cond (eqb (turnRefusal b w) 0) (after (turn b w .bucket) (doing (turn b w))) (after b (refusing (turnRefusal b w) w))
+-- ---- the same without an enum: a number beside the report
 
--- what a turn promises: b and c are the words that it was lent before and after, r what it hands back
-pub record TurnTaken (b : List ℕ) (w : Worker) (c : List ℕ) (r : Turned) : Type 0 where
-  pub whole : after c r ≡ takeTurn b w
-  pub number : numberOf (r .answer) ≡ turnRefusal b w
+-- what stands for the report of a turn that was refused
+abbrev pub unreported : Report
+unreported = record { progress = GoesOn; action = Read; full = false }
+
+-- a turn that is refused, with its number
+abbrev pub refused : ℕ → Worker → Tried
+refused number w = record { worker = w; said = record { report = unreported; refusal = number; place = w .place } }
+
+-- a turn that is done at a place
+abbrev pub done : Stepped → ℕ → Tried
+done s place = record { worker = s .worker; said = record { report = s .report; refusal = 0; place = place } }
+
+-- one turn, refused or done
+unfoldable pub tryTurn : List ℕ → Worker → After Tried
+tryTurn b w =
+    cond (eqb (turnRefusal b w) 0) (after (turn b w .bucket) (done (turn b w .stepped) (w .place))) (after b (refused (turnRefusal b w) w))
+
+-- the answer in what a turn says
+abbrev pub answerOf : Said → Answer
+answerOf s = cond (eqb (s .refusal) 0) (Done (s .report)) (Refused (s .refusal))
+
+-- a turn that was tried, with that answer
+abbrev pub answered : Tried → Turned
+answered t = record { worker = t .worker; answer = answerOf (t .said) }

@@ -87,14 +87,14 @@ heldFits kind place held =
 unfoldable pub wordFits : ℕ → ℕ → Bool
 wordFits kind word = cond (eqb kind 1) (eqb word 0) (wellFormed word)
 
--- all that a busy record has to be
+-- what a busy record's kind asks of its place, ticket, held and word
+unfoldable pub fits : ℕ → ℕ → ℕ → ℕ → ℕ → Bool
+fits kind place ticket held word =
+    mayStand kind place && (ticketFits kind ticket && (heldFits kind place held && wordFits kind word))
+
+-- all that a busy record has to be: at one of the three slots, and what its kind asks
 unfoldable pub sound : Worker → Bool
-sound w =
-    mayStand (w .kind) (w .place)
-    && (ticketFits (w .kind) (w .ticket)
-    && (heldFits (w .kind) (w .place) (w .held)
-    && (leb (w .slot) 2
-    && wordFits (w .kind) (w .word))))
+sound w = leb (w .slot) 2 && fits (w .kind) (w .place) (w .ticket) (w .held) (w .word)
 
 -- "A record is broken unless it is idle or" sound
 unfoldable pub broken : Worker → Bool

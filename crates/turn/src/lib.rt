@@ -1,23 +1,23 @@
 // One worker and one bucket: the worker's record, the eight words of its lot's bucket, and what one turn does to them.
 ghost use mathlib.Core.Path.{_≡_};
-ghost use Rattle.turn.specs.Turn.{turnRefusal, TurnTaken};
+ghost use Rattle.turn.specs.Turn.{bucketRefusal, turnRefusal, after, refused, done, tryTurn, answered};
 
 pub mod refusal; // the numbers
 pub mod record; // idle, started and broken records
 pub mod bucket; // broken buckets
 mod place; // the place table
 
-// What a worker is at. Idle is all 0 but held, which is 3.
+// What a worker is at. Idle is all 0 but held, which is 3. Widest fields first, so that there is no padding to copy around.
 #[repr(C)]
 pub struct Worker {
-    pub kind: u8,
-    pub place: u8,
     pub key: u64,
+    pub word: u64,
+    pub seen: u64,
     pub ticket: u32,
     pub slot: u8,
-    pub word: u64,
+    pub kind: u8,
+    pub place: u8,
     pub held: u8,
-    pub seen: u64,
 }
 
 // The one memory action of a turn; of a swap, whether it was won.
@@ -35,14 +35,27 @@ pub enum Progress {
 }
 
 pub struct Report {
-    pub action: Action,
     pub progress: Progress,
+    pub action: Action,
     pub full: bool,
 }
 
 pub struct Stepped {
     pub worker: Worker,
     pub report: Report,
+}
+
+// What a turn says: its report, of nothing where it was refused; the number of refusal, or 0; and the place that it was tried at.
+pub struct Said {
+    pub report: Report,
+    pub refusal: u8,
+    pub place: u8,
+}
+
+// A turn that was tried: the record that it leaves, which is the one it was given where it was refused.
+pub struct Tried {
+    pub worker: Worker,
+    pub said: Said,
 }
 
 pub enum Answer {
@@ -55,38 +68,87 @@ pub struct Turned {
     pub answer: Answer,
 }
 
-// The number of refusal, or 0.
+// The number of refusal, or 0. A sound record is not idle, so the test that nearly every turn passes comes first.
 fn turn_refusal(lent: &[u64], w: Worker) -> u8
     ensures { λ r. ⌜ r ≡ turnRefusal (now (lent .entry)) w ⌝ }
 {
-    if record::is_broken(w) {
-        return refusal::BROKEN_RECORD;
+    if record::is_sound(w) {
+        return bucket_refusal(lent);
     }
     if record::is_idle(w) {
         return refusal::IDLE_WORKER;
     }
+    refusal::BROKEN_RECORD
+}
+
+fn bucket_refusal(lent: &[u64]) -> u8
+    ensures { λ r. ⌜ r ≡ bucketRefusal (now (lent .entry)) ⌝ }
+{
     if bucket::is_broken(lent) {
         return refusal::BROKEN_BUCKET;
     }
     0
 }
 
+// A turn that is refused: it leaves the record, and reports nothing.
+pub fn refused(number: u8, w: Worker) -> Tried
+    ensures { λ r. ⌜ r ≡ refused number w ⌝ }
+{
+    Tried {
+        worker: w,
+        said: Said {
+            report: Report {
+                progress: Progress::GoesOn,
+                action: Action::Read,
+                full: false,
+            },
+            refusal: number,
+            place: w.place,
+        },
+    }
+}
+
+fn done(stepped: Stepped, place: u8) -> Tried
+    ensures { λ r. ⌜ r ≡ done stepped place ⌝ }
+{
+    let worker = stepped.worker;
+    let report = stepped.report;
+    Tried {
+        worker,
+        said: Said {
+            report,
+            refusal: 0,
+            place,
+        },
+    }
+}
+
 // One turn of a worker on the bucket of its lot.
-pub fn take_turn(lent: &mut [u64], w: Worker) -> Turned
-    ensures { λ r. ⌜ TurnTaken (now (lent .entry)) w (now (lent .exit)) r ⌝ }
+pub fn try_turn(lent: &mut [u64], w: Worker) -> Tried
+    ensures { λ r. ⌜ after (now (lent .exit)) r ≡ tryTurn (now (lent .entry)) w ⌝ }
 {
     let refusal = turn_refusal(lent, w);
     if refusal == 0 {
-        let stepped = place::step(lent, w);
-        let worker = stepped.worker;
-        let report = stepped.report;
+        return done(place::step(lent, w), w.place);
+    }
+    refused(refusal, w)
+}
+
+// What a turn says, as an answer: refused with its number alone, or done with its report.
+pub fn answered(tried: Tried) -> Turned
+    ensures { λ r. ⌜ r ≡ answered tried ⌝ }
+{
+    let worker = tried.worker;
+    let said = tried.said;
+    let report = said.report;
+    if said.refusal == 0 {
         return Turned {
             worker,
             answer: Answer::Done(report),
         };
     }
     Turned {
-        worker: w,
-        answer: Answer::Refused(refusal),
+        worker,
+        answer: Answer::Refused(said.refusal),
     }
 }

@@ -2,7 +2,7 @@
 ghost use mathlib.Core.Path.{_≡_};
 ghost use mathlib.Core.Bool.{_||_};
 ghost use lib.Dec.{eqb};
-ghost use Rattle.turn.specs.Worker.{idle, started, lookFor, insertOf, removeOf, isIdle, within, mayStand, ticketFits, heldFits, wordFits, sound, broken};
+ghost use Rattle.turn.specs.Worker.{idle, started, lookFor, insertOf, removeOf, isIdle, within, heldFits, fits, sound};
 use crate::Worker;
 
 pub const IDLE: u8 = 0;
@@ -114,36 +114,11 @@ fn remove_stands(place: u8) -> bool
     }
 }
 
-fn may_stand(kind: u8, place: u8) -> bool
-    ensures { λ r. ⌜ r ≡ mayStand kind place ⌝ }
+// An insert holds no slot when it is about to claim one, a slot from then on until it is done, and while it looks it may hold one from
+// an earlier try.
+fn insert_holds(place: u8, held: u8) -> bool
+    ensures { λ r. ⌜ r ≡ heldFits 2 place held ⌝ }
 {
-    if kind == LOOK {
-        return look_stands(place);
-    }
-    if kind == INSERT {
-        return insert_stands(place);
-    }
-    if kind == REMOVE {
-        return remove_stands(place);
-    }
-    false
-}
-
-fn ticket_fits(kind: u8, ticket: u32) -> bool
-    ensures { λ r. ⌜ r ≡ ticketFits kind ticket ⌝ }
-{
-    if kind == INSERT {
-        return 1 <= ticket;
-    }
-    ticket == 0
-}
-
-fn held_fits(kind: u8, place: u8, held: u8) -> bool
-    ensures { λ r. ⌜ r ≡ heldFits kind place held ⌝ }
-{
-    if kind != INSERT {
-        return held == mark::NO_SLOT;
-    }
     if place == 6 {
         return held == mark::NO_SLOT;
     }
@@ -153,38 +128,68 @@ fn held_fits(kind: u8, place: u8, held: u8) -> bool
     held <= mark::NO_SLOT
 }
 
-fn word_fits(kind: u8, word: u64) -> bool
-    ensures { λ r. ⌜ r ≡ wordFits kind word ⌝ }
+// What each kind asks of a busy record, beside its slot.
+
+fn look_fits(place: u8, ticket: u32, held: u8, word: u64) -> bool
+    ensures { λ r. ⌜ r ≡ fits 1 place ticket held word ⌝ }
 {
-    if kind == LOOK {
-        return word == 0;
+    if !look_stands(place) {
+        return false;
+    }
+    if ticket != 0 {
+        return false;
+    }
+    if held != mark::NO_SLOT {
+        return false;
+    }
+    word == 0
+}
+
+fn insert_fits(place: u8, ticket: u32, held: u8, word: u64) -> bool
+    ensures { λ r. ⌜ r ≡ fits 2 place ticket held word ⌝ }
+{
+    if !insert_stands(place) {
+        return false;
+    }
+    if ticket < 1 {
+        return false;
+    }
+    if !insert_holds(place, held) {
+        return false;
     }
     mark::is_well_formed(word)
 }
 
-fn is_sound(w: Worker) -> bool
+fn remove_fits(place: u8, ticket: u32, held: u8, word: u64) -> bool
+    ensures { λ r. ⌜ r ≡ fits 3 place ticket held word ⌝ }
+{
+    if !remove_stands(place) {
+        return false;
+    }
+    if ticket != 0 {
+        return false;
+    }
+    if held != mark::NO_SLOT {
+        return false;
+    }
+    mark::is_well_formed(word)
+}
+
+// Whether a record is a busy one that a start and turns could have left: by its kind, so that each field is tested once.
+pub fn is_sound(w: Worker) -> bool
     ensures { λ r. ⌜ r ≡ sound w ⌝ }
 {
-    if !may_stand(w.kind, w.place) {
-        return false;
-    }
-    if !ticket_fits(w.kind, w.ticket) {
-        return false;
-    }
-    if !held_fits(w.kind, w.place, w.held) {
-        return false;
-    }
     if w.slot > 2 {
         return false;
     }
-    word_fits(w.kind, w.word)
-}
-
-pub fn is_broken(w: Worker) -> bool
-    ensures { λ r. ⌜ r ≡ broken w ⌝ }
-{
-    if is_idle(w) {
-        return false;
+    if w.kind == INSERT {
+        return insert_fits(w.place, w.ticket, w.held, w.word);
     }
-    !is_sound(w)
+    if w.kind == LOOK {
+        return look_fits(w.place, w.ticket, w.held, w.word);
+    }
+    if w.kind == REMOVE {
+        return remove_fits(w.place, w.ticket, w.held, w.word);
+    }
+    false
 }

@@ -1,6 +1,5 @@
 use borrow.Author.Needs.{needs}
 use mathlib.Core.Path.{_≡_, sym, _∙_}
-use lib.ListN.{length}
 use Rattle.engine.specs.Refusals.{openNumber}
 use Rattle.engine.specs.Calls.{openCall}
 use Rattle.engine.proofs.Sizes.{right-sizes}
@@ -20,14 +19,12 @@ open-requires c κs =
 returns-2 : tie.Need-returns-2
 unfolding openCall openNumber
 returns-2 c =
-    let o = c .before .before .before in
+    let o = c .before .before in
     let e = o .before .before in
-    let a = e .before .before .before .before .args in
-    let all : length (a .records) ≡ 64 = search needs in
-    rw (sym (e .before .are-wrong .ensures) ∙ e .if1 .left) (simp (o .open .ensures, c .idle-records .ensures, all))
+    rw (sym (e .before .are-wrong .ensures) ∙ e .if1 .left) (simp (o .open .ensures))
 
 pub open-floor-spec : {M : Type 1} → statement M
 open-floor-spec =
     tie.close
     (tie.spec
-    (λ c κs. search needs) (λ c. search needs) returns open-requires (λ c κs. search needs) (λ c. search needs) returns-2)
+    (λ c κs. search needs) (λ c. search needs) returns open-requires (λ c. search needs) returns-2)

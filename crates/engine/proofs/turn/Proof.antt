@@ -1,45 +1,16 @@
 use borrow.Author.Needs.{needs}
-use mathlib.Core.Path.{sym, ap, _∙_}
-use borrow.Author.Tests.{le-leb, lt-leb}
-use Rattle.engine.specs.Refusals.{eachNumber, turnNumber}
-use Rattle.turn.specs.Turn.{after}
-use Rattle.engine.specs.Calls.{turned, turnCall}
+use mathlib.Core.Path.{ap, _∙_}
+use Rattle.engine.specs.Calls.{tryCall, turnCall}
 use Rattle.engine.proofs.Numbers.{turn-done}
-use Rattle.engine.proofs.Sizes.{right-sizes}
+use Rattle.engine.proofs.Turns.{answering, tried-is-turned}
 use Rattle.engine.proofs.turn.Statement.{statement}
 use Rattle.engine.proofs.turn.Tie as tie
 
 returns : tie.Need-returns
-unfolding turnCall turnNumber turned
+unfolding tryCall turnCall
 returns c =
-    let t = c .before in
-    turn-done _ _ _ _ _ (rw (sym (t .before .are-wrong .ensures) ∙ t .if1 .taken) (ap (after _) (c .refused .ensures)))
-
-returns-2 : tie.Need-returns-2
-unfolding turnCall turnNumber eachNumber turned
-returns-2 c =
-    let t = c .before in
-    let e = t .before .before .before in
-    turn-done _ _ _ _ _
-    (rw (sym (e .before .are-wrong .ensures) ∙ e .if1 .left, le-leb _ _ (t .if2 .taken)) (ap (after _) (c .refused2 .ensures)))
-
-turn-requires : tie.Need-turn-requires
-turn-requires c κs =
-    let e = c .before .before .before .before in
-    right-sizes _ _ _ (sym (e .before .are-wrong .ensures) ∙ e .if1 .left)
-
-returns-3 : tie.Need-returns-3
-unfolding turnCall turnNumber eachNumber
-returns-3 c =
-    let t = c .before .before in
-    let u = t .before .before in
-    let e = u .before .before .before in
-    turn-done _ _ _ _ _ (rw (sym (e .before .are-wrong .ensures) ∙ e .if1 .left, lt-leb _ _ (u .if2 .left)) (t .turn .ensures))
+    let t = c .before .before .before in
+    turn-done _ _ _ _ _ (rw (c .answered .ensures) (ap answering (t .try-turn .ensures) ∙ tried-is-turned _ _ _ _))
 
 pub turn-spec : {M : Type 1} → statement M
-turn-spec =
-    tie.close
-    (tie.spec
-    (λ c κs. search needs) (λ c κs. search needs) (λ c. search needs) returns
-    (λ c κs. search needs) (λ c. search needs) returns-2
-    turn-requires (λ c. search needs) returns-3)
+turn-spec = tie.close (tie.spec (λ c κs. search needs) (λ c κs. search needs) (λ c. search needs) returns)

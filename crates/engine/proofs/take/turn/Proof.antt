@@ -15,5 +15,5 @@ turn-spec =
     let t = c .before .before in
     let f = t .before .before in
     let a = f .before .before .args in
-    turn-on (a .floor) (a .board .now) (a .w) (f .first-word .result) (t .take-turn .last .0)
-    (t .take-turn .result) (f .first-word .ensures .0) (t .take-turn .ensures .whole)))
+    turn-on (a .floor) (a .board .now) (a .w) (f .first-word .result) (t .try-turn .last .0)
+    (t .try-turn .result) (f .first-word .ensures .0) (t .try-turn .ensures)))

@@ -7,4 +7,4 @@ done-spec =
     tie.close
     (tie.spec
     (λ c κs. search needs) (λ c κs. search needs) (λ c κs. search needs)
-    (λ c. rw (c .ended-with .ensures, c .before .is-ended .ensures, c .before .before .action .ensures)))
+    (λ c. rw (c .is-ended .ensures, c .before .action .ensures, c .before .before .ended-with .ensures)))

@@ -1,4 +1,5 @@
 use borrow.Author.Needs.{needs}
+use borrow.Author.Tests.{eq-eqb, ne-eqb}
 use Rattle.floor.proofs.told.turn.Statement.{statement}
 use Rattle.floor.proofs.told.turn.Tie as tie
 
@@ -6,6 +7,5 @@ pub turn-spec : {M : Type 1} → statement M
 turn-spec =
     tie.close
     (tie.spec
-    (λ c. search needs) (λ c κs. search needs) (λ c. search needs) (λ c κs. search needs)
-    (λ c. rw (c .before .before .answer .given .1) (c .refused .ensures))
-    (λ c. rw (c .before .before .answer2 .given .1) (c .done .ensures)))
+    (λ c κs. search needs) (λ c. rw (eq-eqb _ 0 (c .before .if1 .taken)) (c .done .ensures))
+    (λ c κs. search needs) (λ c. rw (ne-eqb _ 0 (c .before .if1 .left)) (c .refused .ensures)))

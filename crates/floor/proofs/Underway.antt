@@ -1,0 +1,182 @@
+-- A run that is under way: what is left to run from where it stands comes to what the whole comes to. Assumes nothing.
+use Prim.Native.Nat.{ℕ, _+_, _-_, _<_, _≤_}
+use mathlib.Core.Bool.{Bool, true, false, cond}
+use mathlib.Core.Path.{_≡_, refl, sym, ap, subst, _∙_}
+use mathlib.Core.List.{List, _∷_}
+use native.Mathlib.Omega.{arith}
+use native.Mathlib.Numerals.{add-one}
+use lib.Dec.{eqb, ltb}
+use lib.ListN.{length, getD, set, drop}
+use lib.Seq.{drop-cons, set-getD}
+use borrow.Author.Tests.{eqb-true, eqb-false, lt-ltb, ltb-false}
+use Rattle.mark.proofs.Choices.{passes, by-cases}
+use Rattle.turn.specs.declared.Worker.{Worker}
+use Rattle.turn.specs.declared.Said.{Said}
+use Rattle.turn.specs.declared.Tried.{Tried}
+use Rattle.turn.specs.Turn.{After, after, refused, done}
+use Rattle.turn.specs.Places.{turn}
+use Rattle.engine.specs.declared.Floor.{Floor}
+use Rattle.engine.specs.Refusals.{wrongFloor, wrongSizes, bucketFor, eachNumber, turnNumber, runRefusal, runNumber}
+use Rattle.engine.specs.Room.{Few}
+use Rattle.engine.specs.Calls.{Ran, blank, recordIn, turnDone, tried, tryCall, noTurns, standing, runFrom, runCall}
+use Rattle.engine.proofs.Few.{few-more, few-exact}
+use Rattle.engine.proofs.Stops.{run-over, next-done, next-refused}
+use Rattle.floor.specs.declared.run.Running.{Running}
+use Rattle.floor.specs.Running.{begun, goneOn}
+use Rattle.floor.specs.Calls.{OnList, onList, sayIn}
+
+-- a run never comes to a number that a count could not hold
+short-enough : (i n : ℕ) → i < n → n ≤ 65535 → i + 1 ≤ 4294967295
+short-enough i n less short = omega arith
+
+module _ (f : Floor) (ts : List ℕ) where
+  -- what is left to run
+  abbrev resume : Running → List ℕ → List Worker → After Ran
+  resume r board records = runFrom f (drop (r .at) ts) (standing board records (r .totals) (r .stop))
+
+  -- what holds while a turn is left
+  pub record Going (r : Running) (board : List ℕ) (records : List Worker) : Type 0 where
+    pub right : wrongSizes f board (length records) ≡ false
+    pub short : length ts ≤ 65535
+    pub few : Few (r .at) (r .totals)
+
+  module _ (first : List ℕ) (ys : List Worker) where
+    pub record Underway (r : Running) (board : List ℕ) (records : List Worker) : Type 0 where
+      pub end : r .end ≡ length ts
+      pub within : r .at ≤ length ts
+      pub comes : resume r board records ≡ runCall first f ys (length ys) ts
+      pub going : r .at < length ts → Going r board records
+
+    -- ---- the beginning
+
+    abbrev number : ℕ
+    number = runRefusal f (length first) (length ys) (length ts)
+
+    accepted : number ≡ 0 → Going (record { totals = noTurns; at = 0; end = length ts; stop = 0 }) first ys
+    unfolding wrongSizes wrongFloor
+    accepted none =
+        let sizes = passes _ 0 _ none in
+        record {
+          right = sizes .0;
+          short = ltb-false 65535 (length ts) (passes (ltb 65535 (length ts)) 8 0 (sizes .1) .0);
+          few = record { turns = omega arith; changes = omega arith; lost = omega arith; full = omega arith };
+        }
+
+    -- refused as a whole, it is at its end, and else before its first turn
+    begun-either : (t : Bool) → eqb number 0 ≡ t
+        → Underway (cond t (record { totals = noTurns; at = 0; end = length ts; stop = 0 })
+        (record { totals = noTurns; at = length ts; end = length ts; stop = number })) first ys
+    unfolding runCall runNumber wrongSizes wrongFloor
+    begun-either true is = record {
+      end = refl;
+      within = omega arith;
+      comes = rw is;
+      going = λ _. accepted (eqb-true number 0 is);
+    }
+    begun-either false isnot = record {
+      end = refl;
+      within = omega arith;
+      comes = rw isnot (run-over f ts (length ts) (standing first ys noTurns number) (omega arith));
+      going = λ less. absurd (omega arith);
+    }
+
+    pub begins : Underway (begun f (length first) (length ys) (length ts)) first ys
+    unfolding begun
+    begins = begun-either (eqb number 0) refl
+
+    -- ---- a turn
+
+    module _ (r : Running) (board : List ℕ) (records : List Worker) (under : Underway r board records) (less : r .at < r .end) where
+      abbrev i : ℕ
+      i = r .at
+
+      -- whose turn it is
+      abbrev t : ℕ
+      t = getD ts i 0
+
+      abbrev w : Worker
+      w = recordIn records t
+
+      left : i < length ts
+      left = omega (arith, under .end)
+
+      here : Going r board records
+      here = under .going left
+
+      -- the run as it stands, and its turns from here on
+      abbrev now-stands : After Ran
+      now-stands = standing board records (r .totals) (r .stop)
+
+      from-here : runFrom f (drop i ts) now-stands ≡ runFrom f (t ∷ drop (i + 1) ts) now-stands
+      from-here = rw (add-one i, drop-cons ts i 0 left)
+
+      -- the number of the turn is the one that a run goes by, since the sizes are right
+      abbrev turn-of : ℕ
+      turn-of = turnNumber f board (length records) t w
+
+      each : turn-of ≡ eachNumber f board t w
+      unfolding turnNumber
+      each = rw (here .right)
+
+      after-it : (board′ : List ℕ) (records′ : List Worker) → length board′ ≡ length board → length records′ ≡ length records
+          → wrongSizes f board′ (length records′) ≡ false
+      unfolding wrongSizes wrongFloor
+      after-it board′ records′ same₀ same₁ = rw (same₀, same₁) (here .right)
+
+      -- what a turn that came out so leaves of the run
+      abbrev Leaves : After Tried → Type 0
+      Leaves x =
+          length (x .words) ≡ length board
+          → length (set records t (x .handed .worker)) ≡ length records
+          → Underway (goneOn r (x .handed .said)) (x .words) (set records t (x .handed .worker))
+
+      leaves : (b : Bool) → eqb turn-of 0 ≡ b
+          → let s = turn (bucketFor f board (w .key)) w in
+          Leaves (cond b (after (turnDone f board w s .words) (done (s .stepped) (w .place))) (after board (refused turn-of w)))
+      unfolding goneOn
+      leaves true is same₀ same₁ =
+          let s = turn (bucketFor f board (w .key)) w in
+          let next = lt-ltb i (r .end) less in
+          let counted = few-more i (w .place) (s .stepped .report) (r .totals) (here .few) in
+          let exact = few-exact (i + 1) _ (short-enough i (length ts) left (here .short)) counted in
+          record {
+            end = under .end;
+            within = rw next (omega arith);
+            comes = rw (next, exact) (sym (next-done f t (drop (i + 1) ts) now-stands (sym each ∙ eqb-true turn-of 0 is)) ∙ sym from-here ∙ under .comes);
+            going = λ more. record { right = after-it (turnDone f board w s .words) (set records t (s .stepped .worker)) same₀ same₁; short = here .short; few = rw (next, exact) counted };
+          }
+      leaves false isnot same₀ same₁ =
+          rw (isnot, set-getD records t blank)
+          (record {
+            end = under .end;
+            within = omega (arith, under .end);
+            comes =
+                run-over f ts (r .end) (standing board records (r .totals) turn-of) (omega (arith, under .end))
+                ∙ sym (rw (each) (next-refused f t (drop (i + 1) ts) now-stands (λ none. eqb-false turn-of 0 isnot (each ∙ none))))
+                ∙ sym from-here
+                ∙ under .comes;
+            going = λ more. absurd (omega (arith, under .end));
+          })
+
+      -- one turn more is behind it
+      pub nearer : (s : Said) → length ts - goneOn r s .at < length ts - i
+      unfolding goneOn
+      nearer s = by-cases (λ (n : Running). length ts - n .at < length ts - i) (eqb (s .refusal) 0) _ _
+          (λ done. rw (lt-ltb i (r .end) less) (omega arith)) (λ refused. omega (arith, under .end))
+
+      pub goes-on :
+          (s : Said) (board′ : List ℕ) (records′ : List Worker)
+          → after board′ (onList records′ s) ≡ sayIn board records f t
+          → length board′ ≡ length board
+          → length records′ ≡ length records
+          → Underway (goneOn r s) board′ records′
+      unfolding tryCall tried
+      goes-on s board′ records′ e same₀ same₁ =
+          subst (λ (o : After (OnList Said)). length (o .words) ≡ length board → length (o .handed .records) ≡ length records
+          → Underway (goneOn r (o .handed .answer)) (o .words) (o .handed .records)) (sym e) (leaves (eqb turn-of 0) refl) same₀ same₁
+
+    -- ---- the end
+
+    pub over : (r : Running) (board : List ℕ) (records : List Worker) → Underway r board records → r .end ≤ r .at
+        → after board (record { records = records; totals = r .totals; stop = r .stop }) ≡ runCall first f ys (length ys) ts
+    over r board records under past = sym (run-over f ts (r .at) _ (omega (arith, under .end))) ∙ under .comes

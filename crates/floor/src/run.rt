@@ -1,0 +1,81 @@
+// A run that is under way: a number says where it goes on, and that is the end where a turn was refused.
+ghost use mathlib.Core.Path.{_≡_};
+ghost use mathlib.Core.Bool.{cond};
+ghost use Prim.Native.Nat.{_+_};
+ghost use lib.Dec.{ltb};
+ghost use lib.ListN.{getD};
+ghost use Rattle.floor.specs.Running.{begun, goneOn};
+use engine::Floor;
+use engine::Totals;
+use engine::tally;
+use turn::Said;
+
+pub struct Running {
+    pub totals: Totals,
+    pub at: usize,
+    pub end: usize,
+    pub stop: u8,
+}
+
+// Before its first turn, or at its end where it is refused as a whole: by the words of the board, the records of the list, the turns.
+pub fn begin(floor: Floor, words: usize, listed: usize, turns: usize) -> Running
+    ensures { λ r. ⌜ r ≡ begun floor words listed turns ⌝ }
+{
+    let refusal = engine::run_refusal(floor, words, listed, turns);
+    let totals = tally::nothing();
+    if refusal == 0 {
+        return Running {
+            totals,
+            at: 0,
+            end: turns,
+            stop: 0,
+        };
+    }
+    Running {
+        totals,
+        at: turns,
+        end: turns,
+        stop: refusal,
+    }
+}
+
+// Whose turn it is; past the end nobody's, and 0 is read.
+pub fn whose(turns: &[u8], at: usize) -> usize
+    ensures { λ r. ⌜ r ≡ getD (now (turns .entry)) at 0 ⌝ }
+{
+    if at < turns.len() {
+        return turns[at] as usize;
+    }
+    0
+}
+
+fn next(at: usize, end: usize) -> usize
+    ensures { λ r. ⌜ r ≡ cond (ltb at end) (at + 1) end ⌝ }
+{
+    if at < end {
+        return at + 1;
+    }
+    end
+}
+
+// After a turn: the next one, or the end where this one was refused.
+pub fn go_on(run: Running, said: Said) -> Running
+    ensures { λ r. ⌜ r ≡ goneOn run said ⌝ }
+{
+    let totals = run.totals;
+    if said.refusal == 0 {
+        let report = said.report;
+        return Running {
+            totals: tally::add(totals, said.place, report),
+            at: next(run.at, run.end),
+            end: run.end,
+            stop: 0,
+        };
+    }
+    Running {
+        totals,
+        at: run.end,
+        end: run.end,
+        stop: said.refusal,
+    }
+}
