@@ -9,14 +9,12 @@ use lib.ListN.{length, replicate, length-replicate}
 use Rattle.turn.specs.Turn.{After, after}
 use Rattle.engine.specs.declared.Floor.{Floor}
 use Rattle.engine.specs.declared.Plan.{Plan}
-use Rattle.engine.specs.declared.Opened.{Opened}
 use Rattle.engine.specs.Refusals.{wrongFloor, wrongSizes, openNumber}
-use Rattle.engine.specs.Calls.{planned, noTurns, openCall}
+use Rattle.engine.specs.Calls.{Opened, planned, noTurns, openCall}
 use Rattle.sheet.specs.declared.Field.the-variants.{Opening}
 use Rattle.sheet.specs.declared.Read.{Read}
 use Rattle.sheet.specs.declared.Read.the-variants.{Whole}
-use Rattle.sheet.specs.declared.Desk.{Desk}
-use Rattle.sheet.specs.Play.{shutDesk, openField, opened}
+use Rattle.sheet.specs.Play.{Desk, shutDesk, openField, opened}
 use Rattle.sheet.specs.Listing.{Ending, afterField, oneField, fieldsFrom, played, wordsAsked, listing}
 use Rattle.sheet.proofs.Fielding.{Reading, opening-read, calling-read, turning-read, not-read, reading}
 

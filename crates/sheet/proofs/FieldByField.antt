@@ -1,97 +1,41 @@
--- Field after field: where a sheet stands with some of its fields done, and that the buffer always has room. Assumes nothing.
+-- Field after field, and turn after turn: where a sheet stands, and that the buffer always has room. Assumes nothing.
 use Prim.Native.Nat.{ℕ, zero, suc, _+_, _-_, _*_, _≤_, _<_}
 use mathlib.Core.Bool.{cond}
 use mathlib.Core.Path.{_≡_, refl, sym, ap, _∙_}
-use mathlib.Core.List.{List, [], _∷_, _++_, append-assoc}
+use mathlib.Core.List.{List, [], _++_, append-assoc}
 use native.Mathlib.Nat.{not-suc-le-zero}
+use native.Mathlib.Numerals.{add-one}
 use native.Mathlib.Omega.{arith}
 use lib.Dec.{eqb}
-use lib.ListN.{length, drop, length-drop}
-use lib.Seq.{length-take-le}
+use lib.ListN.{length, getD, set, length-set}
 use borrow.Author.Tests.{eq-eqb, ne-eqb}
-use Rattle.mark.proofs.Choices.{by-cases}
 use Rattle.turn.specs.Turn.{After, after}
+use Rattle.engine.specs.declared.Floor.{Floor}
+use Rattle.engine.specs.declared.Plan.{Plan}
+use Rattle.engine.specs.declared.Laid.{Laid}
+use Rattle.engine.specs.declared.Started.{Started}
+use Rattle.engine.specs.Calls.{layCall}
 use Rattle.engine.specs.Room.{Few}
 use Rattle.engine.proofs.Few.{few-le}
-use Rattle.sheet.specs.declared.Field.{Field}
+use Rattle.sheet.specs.declared.Call.{Call}
+use Rattle.sheet.specs.declared.Span.{Span}
 use Rattle.sheet.specs.declared.Field.the-variants.{Opening, Calling, Turning}
 use Rattle.sheet.specs.declared.Read.the-variants.{Whole, Refused}
-use Rattle.sheet.specs.declared.Desk.{Desk}
-use Rattle.sheet.specs.declared.Played.{Played}
 use Rattle.sheet.specs.Fields.{readField}
 use Rattle.sheet.specs.Line.{refusalLine, totalsLine}
-use Rattle.sheet.specs.Play.{Outcome, shutDesk, openField, callField, turnAtDesk, turnsDone, turnsIn, fieldDone}
-use Rattle.sheet.specs.Listing.{Ending, listedFirst, refused, over, oneField, fieldsFrom}
+use Rattle.sheet.specs.Play.{Desk, deskOf, openedDesk, shutFloor, shutDesk, Outcome, outcome, seatOf, recordOf, asked, callField, openField}
+use Rattle.sheet.specs.Play.{turnAtDesk, andThen, turnsDone}
+use Rattle.sheet.specs.Listing.{Ending, listedFirst, refused, over, afterField, oneField, fieldsFrom}
 use Rattle.sheet.specs.Written.{Wrote}
-use Rattle.sheet.specs.Room.{longest, due, fieldRoom, FieldFits}
+use Rattle.sheet.specs.Room.{due}
 use Rattle.sheet.specs.Promises.{Does, Listed}
 use Rattle.sheet.proofs.Writing.{wrote-none, wrote-then}
-use Rattle.sheet.proofs.Busy.{busy-none}
-use Rattle.sheet.proofs.Fielding.{whole-next, whole-call, whole-turns}
-use Rattle.sheet.proofs.Turns.{few-turn}
+use Rattle.sheet.proofs.Busy.{busy-none, busy-set-le}
+use Rattle.sheet.proofs.Fielding.{later-field, whole-next, whole-call, whole-turns}
+use Rattle.sheet.proofs.Laying.{laid-refused, laid-done}
+use Rattle.sheet.proofs.Turns.{few-turn, turnsFrom, turns-here, turns-over}
 
--- ---- the counts
-
-few-turns : (ts : List ℕ) (n : ℕ) (s : After Desk) → Few n (s .handed .totals) → Few (n + length ts) (turnsDone ts s .left .handed .totals)
-unfolding turnsDone
-few-turns [] n s few = few-le n (n + 0) _ (omega arith) few
-few-turns (t ∷ ts) n s few =
-    let o = turnAtDesk t s in
-    let one = few-turn n t s few in
-    by-cases (λ (x : Outcome). Few (n + length (t ∷ ts)) (x .left .handed .totals)) (eqb (o .stop) 0) _ _
-    (λ is. few-le (n + 1 + length ts) _ _ (omega arith) (few-turns ts (n + 1) (o .left) one))
-    (λ isnot. few-le (n + 1) _ _ (omega arith) one)
-
-module _ (sheet : List ℕ) (at : ℕ) where
-  -- every turn counted stands in the sheet before the next field
-  few-field :
-      (f : Field) (next : ℕ) (s : After Desk)
-      → readField sheet at ≡ Whole f next
-      → Few at (s .handed .totals)
-      → Few next (fieldDone sheet f s .left .handed .totals)
-  unfolding openField callField
-  few-field (Opening p) next s is few = few-le at next _ (let w = whole-next sheet at _ next is .0 in omega (arith, w)) few
-  few-field (Calling c) next s is few = few-le at next _ (let w = whole-next sheet at _ next is .0 in omega (arith, w)) few
-  few-field (Turning span) next s is few =
-      let w = whole-turns sheet at span next is in
-      let n = whole-next sheet at (Turning span) next is .1 in
-      let all = length-drop (span .start) sheet in
-      let long = length-take-le (span .end - span .start) (drop (span .start) sheet) (omega (arith, all, w .1, n)) in
-      few-le (at + length (turnsIn sheet span)) next _ (omega (arith, w .0, w .1, w .2, long)) (few-turns (turnsIn sheet span) at s few)
-
-  -- 37 bytes of listing for 13 of the sheet, which is the least that a call takes
-  room-field :
-      (f : Field) (next before after : ℕ)
-      → readField sheet at ≡ Whole f next
-      → 13 * before ≤ 37 * at
-      → after ≤ before + fieldRoom f
-      → 13 * after ≤ 37 * next
-  room-field (Opening p) next before after is room more = let w = whole-next sheet at _ next is .0 in omega (arith, w, room, more)
-  room-field (Calling c) next before after is room more = let w = whole-call sheet at c next is in omega (arith, w, room, more)
-  room-field (Turning span) next before after is room more = let w = whole-next sheet at _ next is .0 in omega (arith, w, room, more)
-
-  -- what a field asks for is there
-  fits-field :
-      (f : Field) (next : ℕ) (d : Desk) (long written : ℕ)
-      → readField sheet at ≡ Whole f next
-      → length sheet ≤ 16384
-      → long ≡ longest
-      → Few at (d .totals)
-      → 13 * due d written ≤ 37 * at
-      → FieldFits sheet f d long written
-  fits-field (Opening p) next d long written is short room few due = tt
-  fits-field (Calling c) next d long written is short room few due = tt
-  fits-field (Turning span) next d long written is short room few due =
-      let w = whole-turns sheet at span next is in
-      let n = whole-next sheet at (Turning span) next is in
-      record {
-        start = w .2;
-        inside = omega (arith, w .1, n .1);
-        short = omega (arith, w .1, n .1);
-        fits = record { few = few-le at _ _ (omega (arith, w .0)) few; room = omega (arith, due, room, n .0, n .1) };
-      }
-
--- ---- the fields that are left
+-- ---- what is left
 
 -- the field at a place, and then the others
 fields-here :
@@ -106,6 +50,15 @@ fields-here (suc more) sheet at s some = let back : suc more - 1 ≡ more = omeg
 first-first : (l m : List ℕ) (e : Ending) → listedFirst l (listedFirst m e) ≡ listedFirst (l ++ m) e
 first-first l m e = ap (after (e .words)) (sym (append-assoc l m (e .handed)))
 
+module _ (rest : ℕ → After Desk → Ending) (long at end : ℕ) (o : Outcome) (f : After Desk → Outcome) where
+  -- after a turn that was done its field goes on
+  after-done : o .stop ≡ 0 → afterField rest long at end (andThen o f) ≡ listedFirst (o .lines) (afterField rest long at end (f (o .left)))
+  after-done none = rw (eq-eqb (o .stop) 0 none) (sym (first-first (o .lines) (f (o .left) .lines) _))
+
+  -- after a turn that was refused nothing comes
+  after-refused : (o .stop ≡ 0 → ⊥) → afterField rest long at end (andThen o f) ≡ listedFirst (o .lines) (refused (o .stop) at (o .left))
+  after-refused some = rw (ne-eqb (o .stop) 0 some, ne-eqb (o .stop) 0 some)
+
 module _ (sheet : List ℕ) (total : Ending) (out₀ : List ℕ) where
   -- a last line after the lines so far ends the listing
   last-line :
@@ -114,126 +67,248 @@ module _ (sheet : List ℕ) (total : Ending) (out₀ : List ℕ) where
       → listedFirst lines (after board line) ≡ total
       → Wrote out written line later r
       → Listed total out₀ board later r
-  last-line lines line board so-far is wrote =
-      rw (← is) (record { left = refl; lines = wrote-then so-far wrote })
+  last-line lines line board so-far is wrote = rw (← is) (record { left = refl; lines = wrote-then so-far wrote })
 
-  -- where a sheet stands before a field, `total` being what all of it comes to
-  pub record Standing (board out : List ℕ) (d : Desk) (written at : ℕ) : Type 0 where
+  -- where a sheet stands, `total` being what all of it comes to: in the field at a place, whose turns are left from `turn` on to its end
+  pub record Standing (board out : List ℕ) (d : Desk) (written at turn end : ℕ) : Type 0 where
     pub more : ℕ
     pub so-far : List ℕ
     pub lines : Wrote out₀ 0 so-far out written
-    pub same : listedFirst so-far (fieldsFrom more sheet at (after board d)) ≡ total
-    pub enough : length sheet < at + more
-    pub few : Few at (d .totals)
-    pub room : 13 * due d written ≤ 37 * at
-    pub inside : at ≤ length sheet
+    pub same :
+        listedFirst so-far
+        (afterField (fieldsFrom more sheet) (length sheet) at end (turnsDone (turnsFrom sheet end turn) (after board d)))
+        ≡ total
+    pub enough : length sheet < end + more
+    pub few : Few turn (d .totals)
+    pub room : 13 * due d written ≤ 37 * end
+    pub all : length (d .records) ≡ 64
+    pub begun : at ≤ end
+    pub left : turn ≤ end
+    pub some : 1 ≤ end
+    pub inside : end ≤ length sheet
 
-  module _ {board out : List ℕ} {d : Desk} {written at : ℕ} (g : Standing board out d written at) where
-    abbrev rest : ℕ → After Desk → Ending
-    rest = fieldsFrom (g .more - 1) sheet
+  module _ {board out : List ℕ} {d : Desk} {written at turn end : ℕ} (g : Standing board out d written at turn end) where
+    -- ---- a turn is left
 
-    here : listedFirst (g .so-far) (oneField rest sheet at (after board d) (readField sheet at)) ≡ total
-    here =
-        let some : 1 ≤ g .more = omega (arith, g .enough, g .inside) in
-        ap (listedFirst (g .so-far)) (sym (fields-here (g .more) sheet at (after board d) some)) ∙ g .same
-
-    -- the field is malformed
-    pub malformed :
-        (place : ℕ) {later : List ℕ} {r : ℕ}
-        → readField sheet at ≡ Refused place
-        → Wrote out written (refusalLine 8 place) later r
-        → Listed total out₀ board later r
-    malformed place is = last-line (g .so-far) (refusalLine 8 place) board (g .lines) (rw is at here)
-
-    -- what the field asks for is there
-    pub field-fits :
-        (f : Field) (next long : ℕ)
-        → readField sheet at ≡ Whole f next
-        → length sheet ≤ 16384
-        → long ≡ longest
-        → FieldFits sheet f d long written
-    field-fits f next long is short room = fits-field sheet at f next d long written is short room (g .few) (g .room)
-
-    -- the field was done
     module _
-        (f : Field) (next : ℕ) (is : readField sheet at ≡ Whole f next) {later page : List ℕ} {r : Played}
-        (did : Does (fieldDone sheet f (after board d)) out written page later r)
-        (less : due (r .desk) (r .written) ≤ due d written + fieldRoom f)
+        (left : turn < end) {later page : List ℕ} {x : Desk} {next number : ℕ}
+        (did : Does (turnAtDesk (getD sheet turn 0) (after board d)) out written page later x next number)
       where
         abbrev o : Outcome
-        o = fieldDone sheet f (after board d)
+        o = turnAtDesk (getD sheet turn 0) (after board d)
 
-        abbrev s : After Desk
-        s = after later (r .desk)
+        abbrev others : After Desk → Outcome
+        others = turnsDone (turnsFrom sheet end (turn + 1))
 
-        then-lines : Wrote out₀ 0 (g .so-far ++ o .lines) page (r .written)
+        abbrev ends : Outcome → Ending
+        ends = afterField (fieldsFrom (g .more) sheet) (length sheet) at end
+
+        here : listedFirst (g .so-far) (ends (andThen o others)) ≡ total
+        here = ap (λ (y : Outcome). listedFirst (g .so-far) (ends y)) (sym (turns-here sheet end turn (after board d) left (g .inside))) ∙ g .same
+
+        then-lines : Wrote out₀ 0 (g .so-far ++ o .lines) page next
         then-lines = wrote-then (g .lines) (did .lines)
 
-        -- its refusal, the end of the sheet, or the next field
-        abbrev goes : After Desk → ℕ → Ending
-        goes x stop = cond (eqb stop 0) (cond (eqb next (length sheet)) (over x) (rest next x)) (refused stop at x)
-
-        then-same : listedFirst (g .so-far ++ o .lines) (goes s (r .stop)) ≡ total
-        then-same =
-            ap (λ (x : After Desk). listedFirst (g .so-far ++ o .lines) (goes x (r .stop))) (did .left)
-            ∙ ap (λ (n : ℕ). listedFirst (g .so-far ++ o .lines) (goes (o .left) n)) (did .stop)
-            ∙ sym (first-first (g .so-far) (o .lines) (goes (o .left) (o .stop)))
-            ∙ (rw is at here)
-
-        -- the counts before the next field
-        pub few-next : Few next (r .desk .totals)
-        few-next = rw (ap (λ (x : After Desk). x .handed .totals) (did .left)) (few-field sheet at f next (after board d) is (g .few))
-
-        -- the room before the next field
-        pub room-next : 13 * due (r .desk) (r .written) ≤ 37 * next
-        room-next = room-field sheet at f next _ _ is (g .room) less
-
         -- it was refused
-        pub field-refused :
-            {last : List ℕ} {n : ℕ}
-            → (r .stop ≡ 0 → ⊥)
-            → Wrote page (r .written) (refusalLine (r .stop) at) last n
-            → Listed total out₀ later last n
-        field-refused some = last-line _ (refusalLine (r .stop) at) later then-lines (rw (ne-eqb (r .stop) 0 some) at then-same)
+        pub turn-refused :
+            {last : List ℕ} {n : ℕ} → (number ≡ 0 → ⊥) → Wrote page next (refusalLine number at) last n → Listed total out₀ later last n
+        turn-refused some =
+            let isnot : o .stop ≡ 0 → ⊥ = λ none. some (did .stop ∙ none) in
+            let e =
+            ap (λ (s : After Desk). listedFirst (g .so-far ++ o .lines) (refused number at s)) (did .left)
+            ∙ ap (λ (n : ℕ). listedFirst (g .so-far ++ o .lines) (refused n at (o .left))) (did .stop)
+            ∙ sym (first-first (g .so-far) (o .lines) (refused (o .stop) at (o .left)))
+            ∙ ap (listedFirst (g .so-far)) (sym (after-refused (fieldsFrom (g .more) sheet) (length sheet) at end o others isnot))
+            ∙ here in
+            last-line _ (refusalLine number at) later then-lines e
 
-        -- it was the last
-        pub sheet-over :
-            {last : List ℕ} {n : ℕ}
-            → r .stop ≡ 0
-            → next ≡ length sheet
-            → Wrote page (r .written) (totalsLine (r .desk .totals)) last n
-            → Listed total out₀ later last n
-        sheet-over none end =
-            last-line _ (totalsLine (r .desk .totals)) later then-lines
-            (rw (eq-eqb (r .stop) 0 none, eq-eqb next (length sheet) end) at then-same)
-
-        -- there is another
-        pub field-next : r .stop ≡ 0 → (next ≡ length sheet → ⊥) → Standing later page (r .desk) (r .written) next
-        field-next none other =
-            let w = whole-next sheet at f next is in
+        -- it was done
+        pub turn-next : number ≡ 0 → length (x .records) ≡ 64 → due x next ≤ due d written → Standing later page x next at (turn + 1) end
+        turn-next none all less =
             record {
-              more = g .more - 1;
+              more = g .more;
               so-far = g .so-far ++ o .lines;
               lines = then-lines;
-              same = rw (eq-eqb (r .stop) 0 none, ne-eqb next (length sheet) other) at then-same;
-              enough = (let e = g .enough in omega (arith, e, w .0));
-              few = few-next;
-              room = room-next;
-              inside = w .1;
+              same =
+                  ap (λ (s : After Desk). listedFirst (g .so-far ++ o .lines) (ends (others s))) (did .left)
+                  ∙ sym (first-first (g .so-far) (o .lines) (ends (others (o .left))))
+                  ∙ ap (listedFirst (g .so-far)) (sym (after-done (fieldsFrom (g .more) sheet) (length sheet) at end o others (sym (did .stop) ∙ none)))
+                  ∙ here;
+              enough = g .enough;
+              few = rw (ap (λ (s : After Desk). s .handed .totals) (did .left)) (few-turn turn (getD sheet turn 0) (after board d) (g .few));
+              room = (let was = g .room in omega arith);
+              all = all;
+              begun = g .begun;
+              left = omega arith;
+              some = g .some;
+              inside = g .inside;
             }
 
--- no field is done yet
-pub standing-starts :
-    (sheet board out : List ℕ) → Standing sheet (fieldsFrom (length sheet + 1) sheet 0 (after board shutDesk)) out board out shutDesk 0 0
-standing-starts sheet board out =
-    let none = busy-none 64 in
-    record {
-      more = length sheet + 1;
-      so-far = [];
-      lines = wrote-none out 0;
-      same = refl;
-      enough = omega arith;
-      few = record { turns = omega arith; changes = omega arith; lost = omega arith; full = omega arith };
-      room = omega (arith, none);
-      inside = omega arith;
-    }
+    -- ---- no turn is left
+
+    module _ (none : end ≤ turn) where
+      abbrev s : After Desk
+      s = after board d
+
+      ended : listedFirst (g .so-far) (cond (eqb end (length sheet)) (over s) (fieldsFrom (g .more) sheet end s)) ≡ total
+      ended = let last : turn ≡ end = omega (arith, g .left) in rw (last, turns-over sheet end s) at (g .same)
+
+      -- the sheet is over
+      pub sheet-over :
+          {last : List ℕ} {n : ℕ} → end ≡ length sheet → Wrote out written (totalsLine (d .totals)) last n → Listed total out₀ board last n
+      sheet-over is = last-line _ (totalsLine (d .totals)) board (g .lines) (rw (eq-eqb end (length sheet) is) at ended)
+
+      -- there is another field
+      module _ (other : end ≡ length sheet → ⊥) where
+        abbrev rest : ℕ → After Desk → Ending
+        rest = fieldsFrom (g .more - 1) sheet
+
+        field-here : listedFirst (g .so-far) (oneField rest sheet end s (readField sheet end)) ≡ total
+        field-here =
+            let some : 1 ≤ g .more = omega (arith, g .enough, g .inside) in
+            ap (listedFirst (g .so-far)) (sym (fields-here (g .more) sheet end s some)) ∙ (rw (ne-eqb end (length sheet) other) at ended)
+
+        -- it is malformed
+        pub malformed :
+            (place : ℕ) {last : List ℕ} {n : ℕ}
+            → readField sheet end ≡ Refused place
+            → Wrote out written (refusalLine 8 place) last n
+            → Listed total out₀ board last n
+        malformed place is = last-line _ (refusalLine 8 place) board (g .lines) (rw is at field-here)
+
+        -- it is no floor
+        pub no-floor : (p : Plan) (next : ℕ) → readField sheet end ≡ Whole (Opening p) next → ⊥
+        no-floor p next is = let first = later-field sheet end p next is in omega (arith, first, g .some)
+
+        -- it is a call, for which the engine started this
+        module _
+            (c : Call) (next : ℕ) (is : readField sheet end ≡ Whole (Calling c) next) (x : Started)
+            (was : x ≡ asked board (seatOf d (c .worker)) (recordOf d (c .worker)) c)
+          where
+            abbrev started : Desk
+            started = deskOf (x .floor) (set (d .records) (c .worker) (x .worker)) (d .totals)
+
+            called : listedFirst (g .so-far) (afterField rest (length sheet) end next (outcome [] (after board started) (x .refusal))) ≡ total
+            unfolding callField
+            called = rw was (rw is at field-here)
+
+            -- it was refused
+            pub call-refused :
+                {last : List ℕ} {n : ℕ}
+                → (x .refusal ≡ 0 → ⊥)
+                → Wrote out written (refusalLine (x .refusal) end) last n
+                → Listed total out₀ board last n
+            call-refused some = last-line _ (refusalLine (x .refusal) end) board (g .lines) (rw (ne-eqb (x .refusal) 0 some) at called)
+
+            -- 37 bytes of listing for 13 of the sheet, which is the least that a call takes
+            room-next : 13 * due started written ≤ 37 * next
+            room-next =
+                let long = whole-call sheet end c next is in
+                let more = busy-set-le (d .records) (c .worker) (x .worker) in
+                omega (arith, long, more, g .room)
+
+            -- it was done
+            pub call-next : x .refusal ≡ 0 → Standing board out started written end next next
+            call-next accepted =
+                let n = whole-next sheet end (Calling c) next is in
+                record {
+                  more = g .more - 1;
+                  so-far = g .so-far;
+                  lines = g .lines;
+                  same = rw (turns-over sheet next (after board started)) (rw (eq-eqb (x .refusal) 0 accepted) at called);
+                  enough = (let e = g .enough in omega (arith, n .0));
+                  few = few-le turn next _ (omega (arith, n .0, g .left)) (g .few);
+                  room = room-next;
+                  all = simp length-set (g .all);
+                  begun = omega (arith, n .0);
+                  left = omega arith;
+                  some = omega (arith, n .0);
+                  inside = n .1;
+                }
+
+        -- it has turns
+        pub turns-next : (span : Span) (next : ℕ) → readField sheet end ≡ Whole (Turning span) next → Standing board out d written end (span .start) next
+        turns-next span next is =
+            let n = whole-next sheet end (Turning span) next is in
+            let w = whole-turns sheet end span next is in
+            record {
+              more = g .more - 1;
+              so-far = g .so-far;
+              lines = g .lines;
+              same = rw (w .1) at (rw is at field-here);
+              enough = (let e = g .enough in omega (arith, n .0));
+              few = few-le turn (span .start) _ (omega (arith, w .0, g .left)) (g .few);
+              room = (let was = g .room in omega (arith, n .0));
+              all = g .all;
+              begun = omega (arith, n .0);
+              left = omega (arith, w .1, w .2);
+              some = omega (arith, n .0);
+              inside = n .1;
+            }
+
+-- ---- the first field
+
+module _ (sheet board : List ℕ) where
+  abbrev s₀ : After Desk
+  s₀ = after board shutDesk
+
+  abbrev later-fields : ℕ → After Desk → Ending
+  later-fields = fieldsFrom (length sheet) sheet
+
+  abbrev whole : Ending
+  whole = fieldsFrom (length sheet + 1) sheet 0 s₀
+
+  first-here : oneField later-fields sheet 0 s₀ (readField sheet 0) ≡ whole
+  unfolding fieldsFrom
+  first-here = rw (add-one (length sheet))
+
+  -- it is malformed
+  pub first-malformed :
+      (place : ℕ) {out last : List ℕ} {n : ℕ}
+      → readField sheet 0 ≡ Refused place
+      → Wrote out 0 (refusalLine 8 place) last n
+      → Listed whole out board last n
+  first-malformed place is wrote = rw (← first-here, is) (record { left = refl; lines = wrote })
+
+  -- it is a floor, for which the engine laid out this
+  module _
+      (p : Plan) (next : ℕ) (is : readField sheet 0 ≡ Whole (Opening p) next) (later : List ℕ) (l : Laid)
+      (was : after later l ≡ layCall board shutFloor (p .workers) p)
+    where
+      opened-here : afterField later-fields (length sheet) 0 next (openField p s₀) ≡ whole
+      opened-here = rw is at first-here
+
+      -- it was refused
+      pub first-refused :
+          {out last : List ℕ} {n : ℕ} → (l .refusal ≡ 0 → ⊥) → Wrote out 0 (refusalLine (l .refusal) 0) last n → Listed whole out later last n
+      first-refused some wrote =
+          let e = rw (← laid-refused p s₀ later l was some, ne-eqb (l .refusal) 0 some) at opened-here in
+          rw (← e) (record { left = refl; lines = wrote })
+
+      -- it was done
+      pub first-done : l .refusal ≡ 0 → afterField later-fields (length sheet) 0 next (outcome [] (after later (openedDesk (l .floor))) 0) ≡ whole
+      first-done none = rw (← laid-done p s₀ later l was none refl) at opened-here
+
+  -- no later field is done yet
+  pub standing-starts :
+      (f : Floor) (out : List ℕ) (first : ℕ)
+      → 1 ≤ first
+      → first ≤ length sheet
+      → Standing sheet (afterField later-fields (length sheet) 0 first (outcome [] (after board (openedDesk f)) 0)) out board out (openedDesk f) 0 0
+      first first
+  standing-starts f out first some inside =
+      let none = busy-none 64 in
+      record {
+        more = length sheet;
+        so-far = [];
+        lines = wrote-none out 0;
+        same = rw (turns-over sheet first (after board (openedDesk f)));
+        enough = omega arith;
+        few = record { turns = omega arith; changes = omega arith; lost = omega arith; full = omega arith };
+        room = omega (arith, none);
+        all = refl;
+        begun = omega arith;
+        left = omega arith;
+        some = some;
+        inside = inside;
+      }

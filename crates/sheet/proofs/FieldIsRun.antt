@@ -15,14 +15,12 @@ use Rattle.turn.specs.declared.Answer.the-variants.{Refused, Done}
 use Rattle.turn.specs.declared.Turned.{Turned}
 use Rattle.turn.specs.Turn.{After, after}
 use Rattle.engine.specs.declared.Floor.{Floor}
-use Rattle.engine.specs.declared.Ran.{Ran}
 use Rattle.engine.specs.declared.Totals.{Totals}
 use Rattle.engine.specs.Refusals.{wrongSizes, eachNumber, runNumber}
-use Rattle.engine.specs.Calls.{turned, tallied, noTurns, standing, blank, goOn, runFrom, runCall}
+use Rattle.engine.specs.Calls.{Ran, turned, tallied, noTurns, standing, blank, goOn, runFrom, runCall}
 use Rattle.engine.proofs.Keeps.{each-keeps}
 use Rattle.engine.proofs.Stops.{run-turn-is-turn}
-use Rattle.sheet.specs.declared.Desk.{Desk}
-use Rattle.sheet.specs.Play.{Outcome, seatOf, recordOf, turnListed, turnAtDesk, andThen, turnsDone}
+use Rattle.sheet.specs.Play.{Desk, Outcome, seatOf, recordOf, turnListed, turnAtDesk, andThen, turnsDone}
 use Rattle.sheet.proofs.RightSizes.{same-sizes}
 
 -- what turns of a field leave and come to is what a run leaves and comes to

@@ -19,10 +19,9 @@ use Rattle.sheet.specs.declared.Field.{Field}
 use Rattle.sheet.specs.declared.Field.the-variants.{Opening, Calling, Turning}
 use Rattle.sheet.specs.declared.Read.{Read}
 use Rattle.sheet.specs.declared.Read.the-variants.{Whole, Refused}
-use Rattle.sheet.specs.declared.Desk.{Desk}
 use Rattle.sheet.specs.Fields.{readField}
 use Rattle.sheet.specs.Line.{endLine, totalsLine, refusalLine}
-use Rattle.sheet.specs.Play.{Outcome, seatOf, recordOf, openField, callField, endedLine, turnListed, turnAtDesk, turnsDone, turnsIn, fieldDone}
+use Rattle.sheet.specs.Play.{Desk, Outcome, seatOf, recordOf, openField, callField, endedLine, turnListed, turnAtDesk, turnsDone, turnsIn, fieldDone}
 use Rattle.sheet.specs.Listing.{Ending, oneField, fieldsFrom, played, wordsAsked, listing}
 use Rattle.sheet.proofs.Fielding.{whole-next}
 

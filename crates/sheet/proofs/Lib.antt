@@ -9,11 +9,10 @@ pub mod Fitting
 pub mod HighFirst
 pub mod Keyed
 pub mod LastLine
+pub mod Laying
 pub mod OneTurn
-pub mod Quietly
 pub mod RightSizes
 pub mod Seats
-pub mod Sequence
 pub mod TooLong
 pub mod Turns
 pub mod Writing

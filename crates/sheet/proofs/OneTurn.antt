@@ -1,11 +1,13 @@
 -- One turn at the desk: what the engine's answer makes of it, and that no turn makes more lines due. Assumes nothing.
 use Prim.Native.Nat.{ℕ, _+_, _*_, _≤_, _<_}
 use mathlib.Core.Bool.{false}
-use mathlib.Core.Path.{_≡_, sym, ap, _∙_}
+use mathlib.Core.Path.{_≡_, refl, sym, ap, _∙_}
 use mathlib.Core.List.{List}
 use native.Mathlib.Omega.{arith}
-use lib.ListN.{length, getD, set}
-use borrow.Author.Tests.{eq-eqb}
+use lib.Dec.{eqb}
+use lib.ListN.{length, getD, set, List·getD-eq-default}
+use lib.Seq.{set-getD}
+use borrow.Author.Tests.{eq-eqb, ne-eqb}
 use Rattle.turn.specs.declared.Worker.{Worker}
 use Rattle.turn.specs.declared.Progress.{Progress}
 use Rattle.turn.specs.declared.Progress.the-variants.{GoesOn, Ended}
@@ -13,29 +15,34 @@ use Rattle.turn.specs.declared.Report.{Report}
 use Rattle.turn.specs.declared.Answer.{Answer}
 use Rattle.turn.specs.declared.Answer.the-variants.{Refused, Done}
 use Rattle.turn.specs.declared.Turned.{Turned}
+use Rattle.turn.specs.declared.Tried.{Tried}
 use Rattle.turn.specs.Worker.{idle, isIdle}
 use Rattle.turn.specs.Places.{turn}
-use Rattle.turn.specs.Turn.{After, after, numberOf, doing}
+use Rattle.turn.specs.Turn.{After, after, numberOf, doing, answerOf, answered}
 use Rattle.turn.proofs.Kept.{Idles, turn-idles, is-idle}
+use Rattle.engine.specs.declared.Floor.{Floor}
 use Rattle.engine.specs.declared.Seat.{Seat}
+use Rattle.engine.specs.declared.Totals.{Totals}
 use Rattle.engine.specs.Refusals.{bucketFor, turnNumber}
-use Rattle.engine.specs.Calls.{blank, turnDone, turned, turnCall}
+use Rattle.engine.specs.Calls.{blank, recordIn, tallied, turnDone, turned, tryCall, turnCall}
 use Rattle.engine.specs.Promises.{TurnDone}
 use Rattle.engine.proofs.Keeps.{turn-accepted}
-use Rattle.sheet.specs.declared.Desk.{Desk}
-use Rattle.sheet.specs.Play.{seatOf, recordOf, turnListed, turnAtDesk}
+use Rattle.engine.proofs.Numbers.{turn-done}
+use Rattle.engine.proofs.Turns.{answering, tried-is-turned}
+use Rattle.sheet.specs.Play.{deskOf, seatAt, endedLine, turnListed, turnAtDesk}
+use Rattle.sheet.specs.Written.{Wrote}
+use Rattle.sheet.specs.Promises.{Takes}
 use Rattle.sheet.specs.Room.{busy, endedRoom}
 use Rattle.sheet.proofs.Busy.{busy-one, busy-set}
+use Rattle.sheet.proofs.Writing.{wrote-none}
 
--- what the engine handed back is what the turn comes to
-pub turn-come :
-    (i : ℕ) (board : List ℕ) (d : Desk) (later : List ℕ) (r : Turned) (answer : Answer)
-    → after later r ≡ turnCall board (seatOf d i) (recordOf d i)
-    → r .answer ≡ answer
-    → turnListed i (recordOf d i) later (r .worker) answer d ≡ turnAtDesk i (after board d)
-unfolding turnAtDesk
-turn-come i board d later r answer whole told =
-    rw (← told) (ap (λ (x : After Turned). turnListed i (recordOf d i) (x .words) (x .handed .worker) (x .handed .answer) d) whole)
+-- what was tried is the engine's turn, with its answer
+try-done :
+    (board : List ℕ) (s : Seat) (w : Worker) (later : List ℕ) (r : Tried)
+    → after later r ≡ tryCall board s w
+    → TurnDone board s w later (answered r)
+unfolding tryCall turnCall
+try-done board s w later r whole = turn-done _ _ _ _ _ (ap answering whole ∙ tried-is-turned _ _ _ _)
 
 -- ---- a turn that is done
 
@@ -71,6 +78,10 @@ taken board s w later r report done told =
       idles = rw (same, handed) (turn-idles (bucketFor f board (w .key)) w (ok .1));
     }
 
+-- a number that has no record has the blank
+pub no-record : (ws : List Worker) (i : ℕ) (w : Worker) → length ws ≡ 64 → 64 ≤ i → w ≡ blank → recordIn ws i ≡ w
+no-record ws i w all past is = rw is (List·getD-eq-default ws blank (rw all past))
+
 -- ---- the lines that are due
 
 -- a worker that is busy is counted
@@ -90,3 +101,57 @@ due-turn ws i v GoesOn written next all took short =
 due-turn ws i v (Ended answer) written next all took short =
     let e = rw (took .was-busy, took .idles, is-idle) at (busy-set ws i v blank (omega (arith, all, took .known))) in
     rw (took .idles) (omega (arith, e, short))
+
+-- ---- what was tried at a worker's seat is the turn at every desk that has its record
+
+module _
+    (board : List ℕ) (f : Floor) (i : ℕ) (w : Worker) (t : Totals) (later : List ℕ) (r : Tried)
+    (whole : after later r ≡ tryCall board (seatAt f i) w)
+  where
+    done : TurnDone board (seatAt f i) w later (answered r)
+    done = try-done board (seatAt f i) w later r whole
+
+    come :
+        (ws : List Worker)
+        → recordIn ws i ≡ w
+        → turnListed i w later (r .worker) (answerOf (r .said)) (deskOf f ws t) ≡ turnAtDesk i (after board (deskOf f ws t))
+    unfolding turnAtDesk
+    come ws is =
+        rw is
+        (ap (λ (x : After Turned). turnListed i w (x .words) (x .handed .worker) (x .handed .answer) (deskOf f ws t)) (done .whole))
+
+    -- a turn that is refused leaves the desk as it was
+    pub takes-refused :
+        (out : List ℕ) (written : ℕ)
+        → (r .said .refusal ≡ 0 → ⊥)
+        → Takes board f i w t out written out later (record { worker = w; totals = t; written = written; stop = r .said .refusal })
+    takes-refused out written some =
+        let isnot : eqb (r .said .refusal) 0 ≡ false = ne-eqb (r .said .refusal) 0 some in
+        let back : (ws : List Worker) → recordIn ws i ≡ w → set ws i w ≡ ws = λ ws is. rw (← is) (set-getD ws i blank) in
+        record {
+          does = λ ws is. rw (← come ws is, isnot, back ws is) (record { lines = wrote-none _ _; left = refl; stop = refl });
+          known = λ none. absurd (some none);
+          less = λ ws is all. rw (back ws is) (omega arith);
+        }
+
+    -- a turn that is done
+    module _ (none : r .said .refusal ≡ 0) where
+      reported : answerOf (r .said) ≡ Done (r .said .report)
+      reported = rw (eq-eqb (r .said .refusal) 0 none)
+
+      pub took : Taken i w (r .worker) (r .said .report .progress)
+      took = taken board (seatAt f i) w later (answered r) (r .said .report) done reported
+
+      -- is counted, and lists its line
+      pub takes-done :
+          (totals : Totals) (out page : List ℕ) (written next : ℕ)
+          → totals ≡ tallied (w .place) (r .said .report) t
+          → Wrote out written (endedLine (totals .turns) i (w .kind) (r .said .report .progress)) page next
+          → next ≤ written + endedRoom (r .said .report .progress)
+          → Takes board f i w t out written page later (record { worker = r .worker; totals = totals; written = next; stop = 0 })
+      takes-done totals out page written next counted lines short =
+          record {
+            does = λ ws is. rw (← come ws is, reported) (record { lines = rw counted at lines; left = rw counted; stop = refl });
+            known = λ none. took .known;
+            less = λ ws is all. due-turn ws i (r .worker) (r .said .report .progress) written next all (rw is took) short;
+          }

@@ -16,18 +16,16 @@ use Rattle.turn.specs.Turn.{After}
 use Rattle.engine.specs.declared.Floor.{Floor}
 use Rattle.engine.specs.declared.Plan.{Plan}
 use Rattle.engine.specs.declared.Seat.{Seat}
-use Rattle.engine.specs.declared.Opened.{Opened}
 use Rattle.engine.specs.declared.Started.{Started}
 use Rattle.engine.specs.Board.{openedBoard}
 use Rattle.engine.specs.Refusals.{wrongFloor, wrongSizes, openNumber, startNumber}
-use Rattle.engine.specs.Calls.{planned, openCall, spending, startCall, turnCall}
+use Rattle.engine.specs.Calls.{Opened, planned, openCall, spending, startCall, turnCall}
 use Rattle.engine.proofs.Buckets.{length-opened}
 use Rattle.engine.proofs.Sizes.{right-sizes}
 use Rattle.engine.proofs.Keeps.{turn-keeps}
 use Rattle.sheet.specs.declared.Call.{Call}
 use Rattle.sheet.specs.declared.Span.{Span}
-use Rattle.sheet.specs.declared.Desk.{Desk}
-use Rattle.sheet.specs.Play.{Outcome, seatOf, recordOf, openField, callField, turnListed, turnAtDesk, turnsDone, turnsIn}
+use Rattle.sheet.specs.Play.{Desk, Outcome, seatOf, recordOf, openField, callField, turnListed, turnAtDesk, turnsDone, turnsIn}
 use Rattle.sheet.proofs.Seats.{asked-is}
 
 -- a board of the same length has the same sizes

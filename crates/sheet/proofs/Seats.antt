@@ -1,7 +1,7 @@
--- The starts and turns of the engine at a desk's seats: who they are given to, and what a refused one leaves. Assumes nothing.
+-- The starts of the engine at a desk's seats: what holds of each, and who they are given to. Assumes nothing.
 use Prim.Native.Nat.{ℕ, _<_}
 use mathlib.Core.Bool.{Bool}
-use mathlib.Core.Path.{_≡_, refl}
+use mathlib.Core.Path.{_≡_}
 use mathlib.Core.List.{List}
 use native.Mathlib.Omega.{arith}
 use lib.Dec.{eqb}
@@ -51,17 +51,3 @@ module _ (board : List ℕ) (s : Seat) (w : Worker) where
   -- so is one that a call asks for
   pub asked-known : (c : Call) → asked board s w c .refusal ≡ 0 → s .worker < 64
   asked-known = asked-is Known (λ late new ticket. start-known late new _)
-
-  -- a refused start leaves the floor and the record
-  abbrev Same : Started → Type 0
-  Same x = (x .refusal ≡ 0 → ⊥) → (x .floor ≡ s .floor) × (x .worker ≡ w)
-
-  start-same : (late : Bool) (new : Worker) (f : Floor) → Same (startCall board s w late new f)
-  unfolding startCall
-  start-same late new f =
-      by-cases Same (eqb (startNumber (s .floor) board (s .listed) (s .worker) w late) 0) _ _
-      (λ is some. absurd (some refl)) (λ isnot some. (refl, refl))
-
-  -- so does one that a call asks for
-  pub asked-same : (c : Call) → (asked board s w c .refusal ≡ 0 → ⊥) → (asked board s w c .floor ≡ s .floor) × (asked board s w c .worker ≡ w)
-  asked-same = asked-is Same (λ late new ticket. start-same late new _)

@@ -8,10 +8,9 @@ use Rattle.turn.specs.Turn.{After, after}
 use Rattle.sheet.specs.declared.Field.the-variants.{Opening, Calling, Turning}
 use Rattle.sheet.specs.declared.Read.{Read}
 use Rattle.sheet.specs.declared.Read.the-variants.{Whole, Refused}
-use Rattle.sheet.specs.declared.Desk.{Desk}
 use Rattle.sheet.specs.Fields.{readField}
 use Rattle.sheet.specs.Line.{totalsLine, refusalLine}
-use Rattle.sheet.specs.Play.{Outcome, shutDesk, fieldDone}
+use Rattle.sheet.specs.Play.{Desk, Outcome, shutDesk, fieldDone}
 
 -- the board that is left, and the listing
 abbrev pub Ending : Type 0

@@ -13,22 +13,39 @@ use Rattle.turn.specs.declared.Answer.the-variants.{Refused, Done}
 use Rattle.turn.specs.declared.Turned.{Turned}
 use Rattle.turn.specs.Worker.{idle}
 use Rattle.turn.specs.Turn.{After, after}
+use Rattle.engine.specs.declared.Floor.{Floor}
 use Rattle.engine.specs.declared.Plan.{Plan}
 use Rattle.engine.specs.declared.Seat.{Seat}
-use Rattle.engine.specs.declared.Opened.{Opened}
 use Rattle.engine.specs.declared.Started.{Started}
 use Rattle.engine.specs.declared.Totals.{Totals}
-use Rattle.engine.specs.Calls.{openCall, lookCall, insertCall, removeCall, turnCall, tallied, noTurns, recordIn}
+use Rattle.engine.specs.Calls.{Opened, openCall, lookCall, insertCall, removeCall, turnCall, tallied, noTurns, recordIn}
 use Rattle.sheet.specs.declared.Call.{Call}
 use Rattle.sheet.specs.declared.Span.{Span}
 use Rattle.sheet.specs.declared.Field.{Field}
 use Rattle.sheet.specs.declared.Field.the-variants.{Opening, Calling, Turning}
-use Rattle.sheet.specs.declared.Desk.{Desk}
 use Rattle.sheet.specs.Line.{endLine}
 
--- the desk before any field: no floor is open
+-- what the fields done so far have left, beside the board
+pub record Desk : Type 0 where
+  pub floor : Floor
+  pub records : List Worker
+  pub totals : Totals
+
+-- the desk with this floor, these records and these totals
+abbrev pub deskOf : Floor → List Worker → Totals → Desk
+deskOf f ws t = record { floor = f; records = ws; totals = t }
+
+-- a floor that was just opened
+abbrev pub openedDesk : Floor → Desk
+openedDesk f = deskOf f (replicate 64 idle) noTurns
+
+-- no floor is open
+abbrev pub shutFloor : Floor
+shutFloor = record { workers = 0; buckets = 0; last = 0 }
+
+-- the desk before any field
 abbrev pub shutDesk : Desk
-shutDesk = record { floor = record { workers = 0; buckets = 0; last = 0 }; records = replicate 64 idle; totals = noTurns }
+shutDesk = openedDesk shutFloor
 
 -- what a field comes to: its lines, the board and the desk that it leaves, and the number that refused it, or 0
 pub record Outcome : Type 0 where
@@ -40,9 +57,13 @@ pub record Outcome : Type 0 where
 abbrev pub outcome : List ℕ → After Desk → ℕ → Outcome
 outcome lines left stop = record { lines = lines; left = left; stop = stop }
 
--- a worker's seat: the list has a record for each worker
+-- a worker's seat on a floor: the list has a record for each worker
+abbrev pub seatAt : Floor → ℕ → Seat
+seatAt f i = record { floor = f; listed = f .workers; worker = i }
+
+-- a worker's seat at a desk
 abbrev pub seatOf : Desk → ℕ → Seat
-seatOf d i = record { floor = d .floor; listed = d .floor .workers; worker = i }
+seatOf d i = seatAt (d .floor) i
 
 -- a worker's record, and a blank for a number that has none
 abbrev pub recordOf : Desk → ℕ → Worker

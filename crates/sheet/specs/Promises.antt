@@ -1,24 +1,39 @@
 -- What the functions promise whose promise has several parts.
-use Prim.Native.Nat.{ℕ}
+use Prim.Native.Nat.{ℕ, _≤_, _<_}
 use mathlib.Core.Path.{_≡_}
 use mathlib.Core.List.{List}
+use lib.ListN.{length, set}
+use Rattle.turn.specs.declared.Worker.{Worker}
 use Rattle.turn.specs.Turn.{after}
-use Rattle.sheet.specs.declared.Played.{Played}
-use Rattle.sheet.specs.Play.{Outcome}
+use Rattle.engine.specs.declared.Floor.{Floor}
+use Rattle.engine.specs.declared.Totals.{Totals}
+use Rattle.engine.specs.Calls.{recordIn}
+use Rattle.sheet.specs.declared.Took.{Took}
+use Rattle.sheet.specs.Play.{Desk, deskOf, Outcome, turnAtDesk}
 use Rattle.sheet.specs.Listing.{Ending}
 use Rattle.sheet.specs.Written.{Wrote}
+use Rattle.sheet.specs.Room.{due}
 
--- a field, or a part of one: the buffer before and after, the board that is left, and what is handed back
-pub record Does (o : Outcome) (out : List ℕ) (written : ℕ) (later board : List ℕ) (r : Played) : Type 0 where
-  pub lines : Wrote out written (o .lines) later (r .written)
-  pub left : after board (r .desk) ≡ o .left
-  pub stop : r .stop ≡ o .stop
+-- a turn at the desk: the buffer before and after, the board and the desk that are left, the length of the listing, and the number
+pub record Does (o : Outcome) (out : List ℕ) (written : ℕ) (later board : List ℕ) (d : Desk) (next number : ℕ) : Type 0 where
+  pub lines : Wrote out written (o .lines) later next
+  pub left : after board d ≡ o .left
+  pub stop : number ≡ o .stop
 
--- a floor or a call, which list nothing: the board that is left, and what is handed back
-pub record Quiet (o : Outcome) (written : ℕ) (board : List ℕ) (r : Played) : Type 0 where
-  pub left : after board (r .desk) ≡ o .left
-  pub stop : r .stop ≡ o .stop
-  pub same : r .written ≡ written
+-- the desk with the record that a turn of worker i hands back
+abbrev pub putBack : Floor → List Worker → ℕ → Took → Desk
+putBack f ws i t = deskOf f (set ws i (t .worker)) (t .totals)
+
+-- one turn of worker i with record w, whatever the other records are: the buffer before and after, the board that is left, and what is
+-- handed back; where it is done its worker has a record, and it makes no more lines due
+pub record Takes (board : List ℕ) (f : Floor) (i : ℕ) (w : Worker) (t : Totals) (out : List ℕ) (written : ℕ) (later left : List ℕ) (r : Took) :
+    Type 0 where
+  pub does :
+      (ws : List Worker)
+      → recordIn ws i ≡ w
+      → Does (turnAtDesk i (after board (deskOf f ws t))) out written later left (putBack f ws i r) (r .written) (r .stop)
+  pub known : r .stop ≡ 0 → i < 64
+  pub less : (ws : List Worker) → recordIn ws i ≡ w → length ws ≡ 64 → due (putBack f ws i r) (r .written) ≤ due (deskOf f ws t) written
 
 -- what a sheet comes to: the buffer before, and the board, the buffer and the length of the listing after
 pub record Listed (e : Ending) (out board later : List ℕ) (r : ℕ) : Type 0 where

@@ -1,21 +1,24 @@
 // A sheet, field by field, and the listing that it comes to.
 ghost use mathlib.Core.Path.{_≡_};
+ghost use mathlib.Core.List.{[]};
 ghost use Prim.Native.Nat.{_+_, _≤_};
 ghost use lib.ListN.{length};
 ghost use Rattle.turn.specs.Turn.{after};
-ghost use Rattle.sheet.specs.Play.{shutDesk};
-ghost use Rattle.sheet.specs.Listing.{fieldsFrom, played, wordsAsked};
-ghost use Rattle.sheet.specs.Room.{longest};
+ghost use Rattle.sheet.specs.Play.{shutDesk, openedDesk, outcome};
+ghost use Rattle.sheet.specs.Listing.{afterField, fieldsFrom, played, wordsAsked};
+ghost use Rattle.sheet.specs.Room.{longest, LaterFit};
 ghost use Rattle.sheet.specs.Promises.{Listed};
 use engine::Floor;
 use engine::Plan;
 use engine::Totals;
+use engine::tally;
 use turn::Worker;
+use turn::record;
 use turn::refusal;
 
 mod reading; // a field of the sheet: read whole, or refused with its place
 mod line; // a line of the listing
-mod play; // what a field does at the desk
+mod play; // a start and a turn of one worker
 
 // "sheet over 16,384 bytes" is refused.
 pub const LIMIT: usize = 16384;
@@ -49,16 +52,10 @@ enum Read {
     Refused(usize),
 }
 
-// What the fields done so far have left, beside the board.
-struct Desk {
-    pub floor: Floor,
-    pub records: [Worker; 64],
+// What a turn has left of its worker's record and of the totals, how long the listing is, and the number that refused it, or 0.
+struct Took {
+    pub worker: Worker,
     pub totals: Totals,
-}
-
-// What a field has left, how long the listing is, and the number that refused the field, or 0.
-struct Played {
-    pub desk: Desk,
     pub written: usize,
     pub stop: u8,
 }
@@ -95,23 +92,102 @@ fn fields(sheet: &[u8], board: &mut [u64], out: &mut [u8]) -> usize
     ensures { λ r. ⌜ Listed (fieldsFrom (length (now (sheet .entry)) + 1) (now (sheet .entry)) 0 (after (now (board .entry)) shutDesk))
         (now (out .entry)) (now (board .exit)) (now (out .exit)) r ⌝ }
 {
-    let mut desk = play::shut();
+    let read = reading::read(sheet, 0);
+    let Read::Whole(field, next) = read else {
+        return line::refused(out, 0, refusal::MALFORMED, reading::place(read));
+    };
+    // never: the reading refuses any other first field
+    let Field::Opening(plan) = field else {
+        return line::refused(out, 0, refusal::MALFORMED, 0);
+    };
+    let shut = Floor {
+        workers: 0,
+        buckets: 0,
+        last: 0,
+    };
+    let laid = engine::open_floor(board, shut, plan.workers, plan);
+    if laid.refusal != 0 {
+        return line::refused(out, 0, laid.refusal, 0);
+    }
+    let floor = laid.floor;
+    later_fields(sheet, board, out, floor, next)
+}
+
+// The fields after the first, which ends at a place. The records stay here: a start and a turn are given their worker's alone, so that
+// no array is ever copied. A field's turns are those from `turn` on to `end`.
+fn later_fields(
+    sheet: &[u8],
+    board: &mut [u64],
+    out: &mut [u8],
+    opened: Floor,
+    first: usize,
+) -> usize
+    requires { ⌜ LaterFit (now sheet) (length (now out)) first ⌝ }
+    ensures { λ r. ⌜ Listed (afterField (fieldsFrom (length (now (sheet .entry))) (now (sheet .entry))) (length (now (sheet .entry))) 0 first
+        (outcome [] (after (now (board .entry)) (openedDesk opened)) 0)) (now (out .entry)) (now (board .exit)) (now (out .exit)) r ⌝ }
+{
+    let idle = record::idle();
+    let mut records = [idle; 64];
+    let mut floor = opened;
+    let mut totals = tally::nothing();
     let mut written = 0;
     let mut at = 0;
+    let mut turn = first;
+    let mut end = first;
     loop {
+        if turn < end {
+            let worker = sheet[turn];
+            let i = worker as usize;
+            let mut w = engine::blank();
+            if i < 64 {
+                w = records[i];
+            }
+            let took = play::turn(board, floor, worker, w, totals, out, written);
+            if took.stop != 0 {
+                return line::refused(out, took.written, took.stop, at);
+            }
+            let left = took.worker;
+            records[i] = left;
+            totals = took.totals;
+            written = took.written;
+            turn += 1;
+            continue;
+        }
+        if end == sheet.len() {
+            return line::totals(out, written, totals);
+        }
+        at = end;
         let read = reading::read(sheet, at);
         let Read::Whole(field, next) = read else {
             return line::refused(out, written, refusal::MALFORMED, reading::place(read));
         };
-        let played = play::field(sheet, field, board, desk, out, written);
-        desk = played.desk;
-        written = played.written;
-        if played.stop != 0 {
-            return line::refused(out, written, played.stop, at);
+        end = next;
+        match field {
+            // never: the reading refuses a later floor
+            Field::Opening(_) => {
+                return line::refused(out, written, refusal::MALFORMED, at);
+            }
+            Field::Calling(call) => {
+                let i = call.worker as usize;
+                let mut w = engine::blank();
+                if i < 64 {
+                    w = records[i];
+                }
+                let started = play::start(board, floor, w, call);
+                if started.refusal != 0 {
+                    return line::refused(out, written, started.refusal, at);
+                }
+                let left = started.worker;
+                records[i] = left;
+                let spent = started.floor;
+                floor = spent;
+                turn = next;
+                continue;
+            }
+            Field::Turning(span) => {
+                turn = span.start;
+                continue;
+            }
         }
-        if next == sheet.len() {
-            return line::totals(out, written, desk.totals);
-        }
-        at = next;
     }
 }
