@@ -1,8 +1,19 @@
-/* The desk's library, from C. Every call takes any board, any records and any numbers, and ends; what each leaves and answers is
-   promised in crates/floor/src/lib.rt. A call that is refused answers its number and changes nothing. All that is asked of the
-   caller: a pointer has as many words, records or bytes behind it as the number after it says, and what is written to overlaps
-   nothing else. Nothing checks these declarations against that file; tests/c/desk.c compares sizes, offsets and what the library
-   writes. `rt staticlib floor` makes the archive, target/staticlib/libfloor.a, for x86-64. */
+/* The desk's library, for C and C++.
+
+   Board, worker records and floor are the caller's own memory. desk_open_floor makes them ready; a start gives an idle worker a call to
+   do, a look, an insert or a remove; each desk_turn then does one memory action of that call, and is given again until it says that the
+   call has ended. README.md, under "From C", has a whole program and how it is built.
+
+   What is asked of the caller: a pointer has as many words, records or turns behind it as the number after it says, and what a function
+   may write to overlaps nothing else that it is given. All else may be anything. Every function takes any words, any records and any
+   numbers, and ends; what does not fit it refuses by a number, and then nothing has changed.
+
+   Threads: the library keeps nothing between two calls and asks the system for nothing. So each thread can have a board, a list and a
+   floor of its own and use them while others use theirs; one board with its list belongs to one thread at a time. Workers are no threads:
+   which of them moves is what the caller says, turn by turn.
+
+   What each function leaves and answers is promised in crates/floor/src/lib.rt, and proved. Nothing checks the declarations below
+   against that file but the programs of tests/c, which see each size, each offset and each field arrive. */
 #ifndef DESK_H
 #define DESK_H
 
@@ -10,99 +21,170 @@
 #include <stddef.h>
 #include <stdint.h>
 
-/* The numbers of refusal. A call that is not refused answers 0. */
+/* The number of this interface, for `#if`. It goes up by one when a program that was written for it has to be looked at again: a
+   struct has another layout, a function takes or answers something else, a constant stands for something else. Whoever upgrades compares
+   it with the number that his program was written for. It has nothing to do with the version in a mark word. */
+#define DESK_VERSION 1
+
+/* ---- numbers */
+
+/* How many there can be: of workers and buckets at least one, and no more than this. */
 enum {
-    DESK_WRONG_SIZES = 1,   /* W not 1..64, N not 1..256, the board not 8N words, or the list not W records */
-    DESK_NO_WORKER = 2,     /* the worker's number is W or more */
-    DESK_BROKEN_RECORD = 3, /* the worker's record is broken, as no call leaves one */
-    DESK_BUSY_WORKER = 4,   /* a start on a worker that is not idle */
-    DESK_SPENT_TICKET = 5,  /* an insert's ticket is not greater than the last */
-    DESK_IDLE_WORKER = 6,   /* a turn for an idle worker */
-    DESK_BROKEN_BUCKET = 7, /* the bucket of the lot is broken, as no call leaves one; for a count, any bucket */
-    DESK_TOO_LONG = 9       /* a run of more than 65,535 turns */
+    DESK_MOST_WORKERS = 64,
+    DESK_MOST_BUCKETS = 256,
+    DESK_MOST_TURNS = 65535 /* of one run; none at all is a run too */
 };
 
-/* W workers, N buckets, and the last ticket. An opening and a start hand back the floor as it now stands: pass that one on. */
+/* What a call answers: done, or the number by which it is refused. Of two reasons the one that the call looks at first is told: the
+   sizes, then a run's length, the worker's number, its record, whether it is busy, the ticket, the bucket. 8 is for a sheet that cannot be
+   read, which only the program at the rostrum does. */
+enum {
+    DESK_DONE = 0,
+    DESK_WRONG_SIZES = 1,   /* too few or too many workers or buckets, the board not eight words for each bucket, or the list not one
+                               record for each worker (which a show and a count are not given) */
+    DESK_NO_WORKER = 2,     /* workers are counted from 0, and the number is past the last */
+    DESK_BROKEN_RECORD = 3, /* the worker's record is not one that a call can leave */
+    DESK_BUSY_WORKER = 4,   /* a start for a worker whose last call has not ended */
+    DESK_SPENT_TICKET = 5,  /* an insert's ticket has to be greater than all before it; so 0 never is a ticket */
+    DESK_IDLE_WORKER = 6,   /* a turn for a worker that has no call */
+    DESK_BROKEN_BUCKET = 7, /* the lot's bucket is not one that a call can leave: a mark over 2, something above the marks, or a spare
+                               word that is not 0. For a count it can be any bucket */
+    DESK_TOO_LONG = 9       /* a run of more than DESK_MOST_TURNS */
+};
+
+/* What a worker is at: `kind` in its record. */
+enum { DESK_IDLE = 0, DESK_LOOK = 1, DESK_INSERT = 2, DESK_REMOVE = 3 };
+
+/* What a turn did to the board: `action`. A swap is won where the mark word was the one that the worker expected. */
+enum {
+    DESK_NONE = 0,  /* nothing: the turn was refused */
+    DESK_READ = 1,  /* one word, or one mark */
+    DESK_STORE = 2, /* one word, or one mark */
+    DESK_WON = 3,   /* a swap of the mark word, done */
+    DESK_LOST = 4   /* a swap, not done, since the mark word was another */
+};
+
+/* ---- the board
+
+   It is buckets, one after another, and a bucket is eight words:
+
+     DESK_AT_MARK         the mark word: the bucket's version and the marks of its three slots
+     DESK_AT_KEYS + s     the lot in slot s
+     DESK_AT_VALUES + s   the ticket in slot s
+     DESK_AT_SPARE        nothing; it stays 0
+
+   What stands in a slot counts only where its mark is valid; a closed lot leaves its number and its ticket behind in an empty slot. In
+   the mark word, from the low end, the bits
+
+     0 to 31    are the version: each insert that commits adds one to it, and 0 comes after 2^32 - 1
+     32 to 39   are the mark of slot 0
+     40 to 47   are the mark of slot 1
+     48 to 55   are the mark of slot 2
+     56 to 63   are 0 */
+enum {
+    DESK_BUCKET_WORDS = 8,
+    DESK_SLOTS = 3,
+    DESK_NO_SLOT = 3, /* the number that stands where there is no slot, as in `held` */
+    DESK_AT_MARK = 0,
+    DESK_AT_KEYS = 1,
+    DESK_AT_VALUES = 4,
+    DESK_AT_SPARE = 7
+};
+
+enum {
+    DESK_MARK_EMPTY = 0,
+    DESK_MARK_VALID = 1,    /* the slot's lot stands on the slot's ticket */
+    DESK_MARK_INSERTING = 2 /* an insert has claimed the slot and not yet committed it */
+};
+
+/* ---- what goes in and comes back */
+
+/* The floor. A call that can change it hands it back as it now stands: pass that one on. */
 typedef struct {
-    size_t workers;
-    size_t buckets;
-    uint32_t last;
+    size_t workers; /* how many there are; also how many records are listed */
+    size_t buckets; /* how many the board has */
+    uint32_t last;  /* the ticket that an insert brought last; 0 before the first */
 } desk_floor;
 
 /* What an opening asks for. */
 typedef struct {
-    size_t workers;
-    size_t buckets;
-    uint32_t version;
+    size_t workers;   /* 1 to DESK_MOST_WORKERS */
+    size_t buckets;   /* 1 to DESK_MOST_BUCKETS */
+    uint32_t version; /* with which every bucket begins; any */
 } desk_plan;
 
-/* What an insert brings: a ticket for a lot. */
+/* What an insert brings. */
 typedef struct {
-    uint64_t lot;
-    uint32_t ticket;
+    uint64_t lot;    /* any, 0 too */
+    uint32_t ticket; /* greater than the floor's last */
 } desk_bid;
 
-/* A worker's record. Idle is all 0 but held, which is 3. */
+/* A worker's record. The library writes it; a caller can read it, and can keep one and put it back. */
 typedef struct {
-    uint8_t kind; /* 0 idle, 1 look, 2 insert, 3 remove */
-    uint8_t place;
-    uint64_t key;
-    uint32_t ticket;
-    uint8_t slot;
-    uint64_t word;
-    uint8_t held;
-    uint64_t seen;
+    uint64_t key;    /* the lot of its call */
+    uint64_t word;   /* the mark word as an insert or a remove last read or swapped it; 0 in a look */
+    uint64_t seen;   /* the ticket that it read in a slot, to be compared with a second reading or answered */
+    uint32_t ticket; /* what an insert brought; 0 in a look and a remove */
+    uint8_t slot;    /* the slot that the call is at */
+    uint8_t kind;    /* DESK_IDLE, DESK_LOOK, DESK_INSERT or DESK_REMOVE */
+    uint8_t place;   /* which memory action the next turn does, 1 to 13; 0 in an idle record */
+    uint8_t held;    /* the slot that an insert has claimed, or DESK_NO_SLOT */
 } desk_worker;
 
-/* The number of refusal, or 0, and the floor as it now stands. */
+/* What an opening or a start comes to. */
 typedef struct {
-    uint8_t refusal;
-    desk_floor floor;
+    desk_floor floor; /* as it now stands; where refused, the one that was given */
+    uint8_t refusal;  /* DESK_DONE, or why it is refused */
 } desk_outcome;
 
-/* The one memory action of a turn; of a swap, whether it was won. A refused turn has none. */
-enum { DESK_NONE = 0, DESK_READ = 1, DESK_STORE = 2, DESK_WON = 3, DESK_LOST = 4 };
-
-/* The number of refusal, or 0; and of a turn that is done its action, whether the call ended and with which answer, and whether it
-   was a full round. */
+/* What a turn comes to. Where it is refused all else is 0. */
 typedef struct {
-    uint8_t refusal;
-    uint8_t action;
-    bool ended;
-    bool full;
-    uint64_t answer;
+    uint64_t answer; /* of a call that ended: a look's and a remove's is the lot's ticket, or 0 where the lot is not there; an
+                        insert's is 1, or 0 where the lot is there already */
+    uint8_t refusal; /* DESK_DONE, or why it is refused */
+    uint8_t action;  /* DESK_READ, DESK_STORE, DESK_WON or DESK_LOST */
+    bool ended;      /* the call is over, and the worker idle again */
+    bool full;       /* an insert found no empty slot and begins again */
 } desk_turn_outcome;
 
-/* Turns done, changes, lost swaps, full rounds. */
+/* What turns add up to. */
 typedef struct {
-    uint32_t turns;
-    uint32_t changes;
-    uint32_t lost;
-    uint32_t full;
+    uint32_t turns;   /* that were done */
+    uint32_t changes; /* of a mark word: a swap that was won, or a claimed slot given back */
+    uint32_t lost;    /* swaps */
+    uint32_t full;    /* rounds in which an insert found no empty slot */
 } desk_totals;
 
-/* What the turns done come to, and the number that stopped the run, or 0. */
+/* What a run comes to. */
 typedef struct {
-    desk_totals totals;
-    uint8_t stop;
+    desk_totals totals; /* of the turns before the one that was refused, or of all */
+    uint8_t stop;       /* DESK_DONE, or why the run was refused or where it stopped */
 } desk_run_outcome;
 
-/* So many words of the lent board, from this one on. */
+/* A part of the board that was lent: `board + start`, so many `words`. It is no copy, and changes as the board does. */
 typedef struct {
-    size_t start;
-    size_t words;
+    size_t start; /* 0 where there is no part */
+    size_t words; /* DESK_BUCKET_WORDS, or 0 where there is no part */
 } desk_part;
 
-/* The number of refusal, or 0, and the lots on the board. */
+/* What a count comes to. */
 typedef struct {
-    uint8_t refusal;
-    size_t lots;
+    size_t lots;     /* slots that are not empty, over the whole board; 0 where refused */
+    uint8_t refusal; /* DESK_DONE, or why it is refused */
 } desk_count_outcome;
 
-/* Opens a floor on a board of eight words a bucket and as many records as there are workers; `floor` is the one that stood before. */
+/* ---- the functions. `words` is how many words the board has, `listed` how many records the list has. */
+
+#ifdef __cplusplus
+extern "C" {
+#endif
+
+/* Opens a floor: every bucket empty and at the plan's version, every worker idle, no ticket spent. The floor that is passed in is the
+   one that stood before, all 0 where there was none; it comes back where the opening is refused. */
 desk_outcome desk_open_floor(uint64_t *board, size_t words, desk_worker *records, size_t listed, desk_floor floor, desk_plan plan);
 
-/* Starts a call on a worker. */
+/* Start a call for an idle worker, and touch no more than its record; an insert's ticket becomes the floor's last. The call is done by
+   turns for that worker, until one has `ended`. */
 desk_outcome desk_start_look(const uint64_t *board, size_t words, desk_worker *records, size_t listed, desk_floor floor,
     size_t worker, uint64_t lot);
 desk_outcome desk_start_insert(const uint64_t *board, size_t words, desk_worker *records, size_t listed, desk_floor floor,
@@ -110,18 +192,71 @@ desk_outcome desk_start_insert(const uint64_t *board, size_t words, desk_worker 
 desk_outcome desk_start_remove(const uint64_t *board, size_t words, desk_worker *records, size_t listed, desk_floor floor,
     size_t worker, uint64_t lot);
 
-/* Gives a worker one turn. */
+/* Does the next memory action of a worker's call. An insert into a bucket with no empty slot goes round, and reports it by `full` each
+   time, for as long as nobody else removes a lot: whoever gives turns to one worker alone, until the call has ended, looks at that too. */
 desk_turn_outcome desk_turn(uint64_t *board, size_t words, desk_worker *records, size_t listed, desk_floor floor, size_t worker);
 
-/* Runs a list of turns, each a worker's number, until one is refused. */
+/* Does `count` turns, each for the worker whose number stands in `turns`, and stops before the first that is refused; those before it
+   are done. It does not tell which turn ended a call: that worker is idle then, and a further turn for it stops the run. */
 desk_run_outcome desk_run(uint64_t *board, size_t words, desk_worker *records, size_t listed, desk_floor floor,
     const uint8_t *turns, size_t count);
 
-/* The part of the board that is the bucket of a lot; an empty one where the show is refused, and the second call gives its number. */
+/* Tells which words of the board are the bucket of a lot: with `p` for the answer, the eight words from `board + p.start` on. Where
+   the show is refused p.words is 0, and the second function, given the same, has the number. */
 desk_part desk_show(const uint64_t *board, size_t words, desk_floor floor, uint64_t lot);
 uint8_t desk_show_refusal(const uint64_t *board, size_t words, desk_floor floor, uint64_t lot);
 
-/* Counts the lots on the board. */
+/* Counts the slots of the board that are not empty. */
 desk_count_outcome desk_count(const uint64_t *board, size_t words, desk_floor floor);
+
+#ifdef __cplusplus
+}
+#endif
+
+/* ---- reading what stands there. These are the header's own and in no proof; tests/c compares the first two with the proved functions
+   of crate mark, and the others with what the library writes. */
+
+/* The version in a mark word. */
+static inline uint32_t desk_version(uint64_t word) {
+    return (uint32_t)(word & 0xffffffffu);
+}
+
+/* The mark of a slot in a mark word; of a number that is no slot DESK_MARK_EMPTY. */
+static inline uint8_t desk_mark(uint64_t word, size_t slot) {
+    if (slot >= DESK_SLOTS) {
+        return DESK_MARK_EMPTY;
+    }
+    return (uint8_t)(word >> (32 + 8 * slot) & 0xffu);
+}
+
+/* The number of the bucket that a lot belongs to, on a board of so many buckets (0 where there are none). Its words begin at
+   `board + DESK_BUCKET_WORDS * desk_bucket(lot, buckets)`; desk_show says the same, and refuses a bucket that is broken. */
+static inline size_t desk_bucket(uint64_t lot, size_t buckets) {
+    if (buckets == 0) {
+        return 0;
+    }
+    return (size_t)(lot % buckets);
+}
+
+/* The lot and the ticket in a slot, out of a bucket's eight words; of a number that is no slot 0. */
+static inline uint64_t desk_key(const uint64_t *bucket, size_t slot) {
+    if (slot >= DESK_SLOTS) {
+        return 0;
+    }
+    return bucket[DESK_AT_KEYS + slot];
+}
+
+static inline uint64_t desk_value(const uint64_t *bucket, size_t slot) {
+    if (slot >= DESK_SLOTS) {
+        return 0;
+    }
+    return bucket[DESK_AT_VALUES + slot];
+}
+
+/* The record of an idle worker. An opening leaves these; whoever makes a list by hand begins with them. */
+static inline desk_worker desk_idle_record(void) {
+    desk_worker idle = {0, 0, 0, 0, 0, DESK_IDLE, 0, DESK_NO_SLOT};
+    return idle;
+}
 
 #endif

@@ -1,28 +1,20 @@
-/* The probe's cases once more, from C, over the lent list of records: reads a stream of cases and writes for each the line that the
-   proved program writes, or says where the library wrote past what it was lent. tests/reference/README.md has the form of both. */
+/* The probe: reads a stream of cases, each any floor, any board, any records and a call with any numbers, makes the library's call, and
+   writes for each what came back and everything that stands afterwards; also where the library wrote outside of what it was lent.
+   tests/reference/README.md has the form of a case and of a line. */
 #include "desk.h"
+#include <stdio.h>
+#include <string.h>
 
-int printf(const char *, ...);
-int fflush(void *);
-long read(int, void *, size_t);
-
-enum { LONGEST = 65535, MOST_WORDS = 2064, MOST_RECORDS = 64, MOST_TURNS = 65540, SPARE = 8 };
+/* a body; two buckets more than a board can have; as many records more than a list can have as a byte has values; some turns more than a
+   run may have; and how much stands on both sides of the board and of the list, and of which byte */
+enum { LONGEST = 65535, MOST_WORDS = 2064, MOST_RECORDS = 320, MOST_TURNS = 65540, FENCE = 8, POST = 0xa5 };
 
 static uint8_t body[LONGEST], turns[MOST_TURNS];
 static size_t length, next, count;
-static uint64_t board[MOST_WORDS + SPARE];
-static desk_worker records[MOST_RECORDS + 2 + SPARE];
-static size_t words, listed, shown;
+static uint64_t fenced_board[FENCE + MOST_WORDS + FENCE], *const board = fenced_board + FENCE;
+static desk_worker fenced_records[FENCE + MOST_RECORDS + FENCE], *const records = fenced_records + FENCE;
+static size_t words, listed;
 static desk_floor floor;
-
-static size_t read_all(uint8_t *to, size_t most) {
-    size_t done = 0;
-    long got;
-    while (done < most && (got = read(0, to + done, most - done)) > 0) {
-        done += (size_t)got;
-    }
-    return done;
-}
 
 /* ---- a case out of its bytes; those that it does not have read as 0 */
 
@@ -73,11 +65,8 @@ static desk_worker read_record(void) {
 static void read_records(void) {
     uint64_t more = 0;
     desk_worker w = {0};
-    uint64_t n = number();
-    shown = least(n, MOST_RECORDS);
-    /* a list of more than 64 records is as long here as there is room for, and refused like any other */
-    listed = least(n, MOST_RECORDS + 2);
-    for (size_t i = 0; i < shown; i++, more--) {
+    listed = least(number(), MOST_RECORDS);
+    for (size_t i = 0; i < listed; i++, more--) {
         if (more == 0) {
             more = byte() + 1;
             w = read_record();
@@ -97,24 +86,30 @@ static void read_turns(void) {
     }
 }
 
-/* ---- what stands past the end of what is lent, and must stay */
-
-static const uint64_t pattern = 0xa5a5a5a5a5a5a5a5;
+/* ---- what stands before and after what is lent, and must stay */
 
 static void fence(void) {
-    for (size_t i = 0; i < SPARE; i++) {
-        board[words + i] = pattern;
-        records[listed + i] = (desk_worker){.key = pattern, .word = pattern, .seen = pattern};
+    memset(fenced_board, POST, FENCE * sizeof *board);
+    memset(board + words, POST, FENCE * sizeof *board);
+    memset(fenced_records, POST, FENCE * sizeof *records);
+    memset(records + listed, POST, FENCE * sizeof *records);
+}
+
+static bool stands(const void *side, size_t bytes) {
+    for (size_t i = 0; i < bytes; i++) {
+        if (((const uint8_t *)side)[i] != POST) {
+            return false;
+        }
     }
+    return true;
 }
 
 static void check_fence(void) {
-    for (size_t i = 0; i < SPARE; i++) {
-        const desk_worker *w = &records[listed + i];
-        if (board[words + i] != pattern || w->key != pattern || w->word != pattern || w->seen != pattern || w->kind || w->place ||
-            w->ticket || w->slot || w->held) {
-            printf(" written past the end");
-        }
+    if (!stands(fenced_board, FENCE * sizeof *board) || !stands(fenced_records, FENCE * sizeof *records)) {
+        printf(" written before the start");
+    }
+    if (!stands(board + words, FENCE * sizeof *board) || !stands(records + listed, FENCE * sizeof *records)) {
+        printf(" written past the end");
     }
 }
 
@@ -141,15 +136,15 @@ static void words_out(const uint64_t *part, size_t many) {
 }
 
 static bool alike(const desk_worker *a, const desk_worker *b) {
-    return a->kind == b->kind && a->place == b->place && a->key == b->key && a->ticket == b->ticket && a->slot == b->slot &&
-        a->word == b->word && a->held == b->held && a->seen == b->seen;
+    return a->key == b->key && a->word == b->word && a->seen == b->seen && a->ticket == b->ticket && a->kind == b->kind &&
+        a->place == b->place && a->slot == b->slot && a->held == b->held;
 }
 
 static void records_out(void) {
     printf(" |");
-    for (size_t i = 0, end; i < shown; i = end) {
+    for (size_t i = 0, end; i < listed; i = end) {
         const desk_worker *w = &records[i];
-        for (end = i + 1; end < shown && alike(&records[end], w); end++) {
+        for (end = i + 1; end < listed && alike(&records[end], w); end++) {
         }
         printf(" %x.%x.%lx.%x.%x.%lx.%x.%lx", w->kind, w->place, w->key, w->ticket, w->slot, w->word, w->held, w->seen);
         times_out(end - i);
@@ -196,8 +191,8 @@ static void call(unsigned which, uint64_t worker, uint64_t lot, uint32_t ticket)
 
 int main(void) {
     uint8_t head[2];
-    while (read_all(head, 2) == 2) {
-        length = read_all(body, (size_t)head[0] << 8 | head[1]);
+    while (fread(head, 1, 2, stdin) == 2) {
+        length = fread(body, 1, (size_t)head[0] << 8 | head[1], stdin);
         next = 0;
         unsigned which = (unsigned)byte() % 8;
         floor.workers = number();
@@ -216,5 +211,5 @@ int main(void) {
         check_fence();
         printf("\n");
     }
-    return fflush(0);
+    return fflush(stdout);
 }

@@ -19,8 +19,8 @@ pub const NAMES: [&str; 8] = [
 
 /// A board of more words counts as one of so many.
 pub const MOST_WORDS: u64 = 2_064;
-/// So many records of a list are there at most.
-pub const MOST_RECORDS: u64 = 64;
+/// A list of more records counts as one of so many: what a list can have, and as many more as a byte has values.
+pub const MOST_RECORDS: u64 = 64 + 256;
 /// Turns past so many are left out.
 pub const MOST_TURNS_READ: usize = 65_540;
 
@@ -181,11 +181,10 @@ impl Bytes<'_> {
     }
 
     fn list(&mut self) -> List {
-        let length = self.number();
-        let there = length.min(MOST_RECORDS) as usize;
+        let length = self.number().min(MOST_RECORDS);
         List {
             length,
-            records: self.grouped(there, Bytes::record),
+            records: self.grouped(length as usize, Bytes::record),
         }
     }
 

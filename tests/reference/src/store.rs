@@ -1,4 +1,4 @@
-//! The stored cases: two files, the stream of cases and the lines they come to.
+//! The stored cases: two files, `cases`, which is a stream of them, and `lines`, what they come to.
 
 use crate::case::Case;
 use crate::cases;
@@ -7,6 +7,9 @@ use crate::outcome::{line, outcome};
 use std::fs;
 use std::io;
 use std::path::Path;
+
+const CASES: &str = "cases";
+const LINES: &str = "lines";
 
 /// The stored cases as they are made.
 pub struct Stored {
@@ -36,8 +39,8 @@ pub fn make() -> Stored {
 pub fn write(folder: &Path) -> io::Result<bool> {
     let stored = make();
     fs::create_dir_all(folder)?;
-    fs::write(folder.join("stdin"), &stored.stream)?;
-    fs::write(folder.join("stdout"), &stored.lines)?;
+    fs::write(folder.join(CASES), &stored.stream)?;
+    fs::write(folder.join(LINES), &stored.lines)?;
     Ok(all_met(&stored.coverage))
 }
 
@@ -47,8 +50,8 @@ pub fn same(folder: &Path) -> io::Result<bool> {
     print!("{}", stored.coverage.report());
     let mut same = all_met(&stored.coverage);
     for (name, expected) in [
-        ("stdin", &stored.stream[..]),
-        ("stdout", stored.lines.as_bytes()),
+        (CASES, &stored.stream[..]),
+        (LINES, stored.lines.as_bytes()),
     ] {
         if fs::read(folder.join(name))? != expected {
             println!("{name} is not what is made");

@@ -65,11 +65,10 @@ fn bounds_of_the_format() {
     assert_eq!(case.board.len(), 2_064);
     assert_eq!(case.board[..257], [vec![7; 256], vec![0]].concat());
     let mut body = vec![0; 8];
-    body.extend([249, 1, 0, 255, 249, 1, 2]);
-    let case = Case::read(&body);
-    assert_eq!(case.list.length, 256);
-    assert_eq!(case.list.records.len(), 64);
-    assert_eq!(case.list.records[63].kind, 2);
+    body.extend([249, 255, 255, 255, 249, 1, 2]);
+    let list = Case::read(&body).list;
+    assert_eq!((list.length, list.records.len()), (320, 320));
+    assert_eq!((list.records[255].kind, list.records[256].kind), (2, 0));
     let mut body = vec![0; 9];
     body.extend([1, 0, 2, 3, 255, 255, 4, 255, 255, 5, 1]);
     let turns = Case::read(&body).turns;

@@ -37,10 +37,10 @@ fn write_and_same() {
     let name = folder.to_str().unwrap();
     assert_eq!(status(&["write", name]), 0);
     assert_eq!(status(&["same", name]), 0);
-    let stream = fs::read(folder.join("stdin")).unwrap();
-    let lines = fs::read(folder.join("stdout")).unwrap();
+    let stream = fs::read(folder.join("cases")).unwrap();
+    let lines = fs::read(folder.join("lines")).unwrap();
     assert_eq!(run(&["outcomes"], &stream).stdout, lines);
-    fs::write(folder.join("stdout"), &lines[1..]).unwrap();
+    fs::write(folder.join("lines"), &lines[1..]).unwrap();
     assert_eq!(status(&["same", name]), 1);
 }
 

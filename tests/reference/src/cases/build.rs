@@ -205,7 +205,7 @@ pub fn set_bucket(case: &mut Case, lot: u64, bucket: [u64; BUCKET_WORDS]) {
     case.board[start..start + BUCKET_WORDS].copy_from_slice(&bucket);
 }
 
-/// W is another, and the list as long as that.
+/// W is another, and the list as long as that, if a list can be.
 pub fn set_workers(case: &mut Case, w: u64) {
     match case.call {
         case::OPEN => case.worker = w,
@@ -222,10 +222,9 @@ pub fn set_buckets(case: &mut Case, n: u64) {
     }
 }
 
-/// The list is of another length; records are dropped at its end, or idle ones put there.
+/// The list is of another length, or as long as a case's can be; records are dropped at its end, or idle ones put there.
 pub fn set_list(case: &mut Case, length: u64) {
+    let length = length.min(case::MOST_RECORDS);
     case.list.length = length;
-    case.list
-        .records
-        .resize(length.min(case::MOST_RECORDS) as usize, Record::idle());
+    case.list.records.resize(length as usize, Record::idle());
 }

@@ -30,9 +30,16 @@ fn accepted(bodies: &mut Bodies, call: u8) {
 }
 
 fn causes_of_1(bodies: &mut Bodies, call: u8) {
-    for w in [0, 65, 256, (1 << 32) + 1, u64::MAX] {
+    for w in [0, 65, 256] {
         let mut case = bodies.random.sound(call);
         set_workers(&mut case, w);
+        bodies.push(case);
+    }
+    // no list is as long as these; this one is as long as the number that a narrower reading would take them for
+    for (w, length) in [((1 << 32) + 1, 1), (u64::MAX, 255)] {
+        let mut case = bodies.random.sound(call);
+        set_workers(&mut case, w);
+        set_list(&mut case, length);
         bodies.push(case);
     }
     for (n, words) in [
@@ -59,10 +66,9 @@ fn causes_of_1(bodies: &mut Bodies, call: u8) {
         (2, 3),
         (1, 0),
         (1, 257),
-        (1, (1 << 32) + 1),
-        (2, u64::MAX),
         (64, 63),
         (64, 65),
+        (64, 320),
     ] {
         let mut case = bodies.random.sound_sized(call, w, 1);
         set_list(&mut case, length);

@@ -23,8 +23,8 @@ const POINTS: &[&str] = &[
     // the causes of 1, each alone
     "{open,look,insert,remove,turn,run,show,count}: 1 by {W 0,W 65,W 2^32+1,W 2^64-1,N 0,N 257,N 2^32+1,N 2^64-1,an N whose 8N wraps}",
     "{open,look,insert,remove,turn,run,show,count}: 1 by a board {empty,one word short,one word long,of 2040 words for N 256}",
-    "{open,look,insert,remove,turn,run}: 1 by a list {empty,one short,one long,of W+256,of W+2^32,of 2^64-1}",
-    "{show,count}: 0 with a list {empty,one short,one long,of W+256,of W+2^32,of 2^64-1}",
+    "{open,look,insert,remove,turn,run}: 1 by a list {empty,one short,one long,of W+256}",
+    "{show,count}: 0 with a list {empty,one short,one long,of W+256}",
     "{show,count}: 0 with a broken record",
     "open: 0 {over a broken bucket,with a last ticket,with a floor outside its ranges}",
     "open: 0 over a {broken,busy} record of worker {0,63}",

@@ -99,7 +99,7 @@ fn applying(case: &Case) -> Vec<u8> {
     numbers.map(|(number, _)| *number).collect()
 }
 
-/// What gives cause for a 1. A board is measured only by an N that it can have.
+/// What gives cause for a 1. A board is measured only by an N that it can have, and a list only by a W that it can have.
 fn causes_of_1(case: &Case) -> Vec<&'static str> {
     let (w, n) = sizes(case);
     let words = case.board.len() as u64;
@@ -131,7 +131,7 @@ fn causes_of_1(case: &Case) -> Vec<&'static str> {
         });
     }
     let takes_list = !matches!(case.call, case::SHOW | case::COUNT);
-    if takes_list && case.list.length != w {
+    if takes_list && w <= case::MOST_RECORDS && case.list.length != w {
         causes.push(length_of_list(case.list.length, w));
     }
     causes
@@ -141,10 +141,8 @@ fn causes_of_1(case: &Case) -> Vec<&'static str> {
 pub fn length_of_list(length: u64, w: u64) -> &'static str {
     let more = length.checked_sub(w);
     match (length, more) {
-        (u64::MAX, _) => "a list of 2^64-1",
         (_, Some(1)) => "a list one long",
         (_, Some(256)) => "a list of W+256",
-        (_, Some(0x1_0000_0000)) => "a list of W+2^32",
         (0, _) if w > 1 => "a list empty",
         (length, None) if length == w - 1 => "a list one short",
         _ => "another list",

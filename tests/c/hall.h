@@ -1,0 +1,49 @@
+/* A hall: a floor with the board and the records that belong to it, and the library's calls on it. For the program that checks them, which
+   is desk.c and refusals.c. */
+#ifndef HALL_H
+#define HALL_H
+
+#include "desk.h"
+
+/* Room for more than the rules allow, so that too much can be lent, and what stands past the end can be seen to stay. */
+enum { ROOM_FOR_WORKERS = 66, ROOM_FOR_BUCKETS = 257, ROOM_FOR_TURNS = 65536 };
+
+typedef struct {
+    uint64_t board[DESK_BUCKET_WORDS * ROOM_FOR_BUCKETS];
+    size_t words;
+    desk_worker records[ROOM_FOR_WORKERS];
+    size_t listed;
+    desk_floor floor;
+} hall;
+
+extern hall one, two, before;
+extern uint8_t many[ROOM_FOR_TURNS];
+
+/* Counts a check, and says where it does not hold. */
+void check(bool holds, const char *what, const char *file, int line);
+#define CHECK(holds) check((holds), #holds, __FILE__, __LINE__)
+
+bool same_record(const desk_worker *a, const desk_worker *b);
+bool same_hall(const hall *a, const hall *b);
+void copy_hall(hall *to, const hall *from);
+
+/* Puts something into every word, record and the floor that an opening has to clear and no other call may touch. */
+void fill(hall *h);
+/* A hall that was filled and then opened. */
+void opened(hall *h, size_t workers, size_t buckets, uint32_t version);
+
+/* The calls; each keeps the floor that comes back. */
+uint8_t open_hall(hall *h, size_t workers, size_t buckets, uint32_t version);
+uint8_t start_look(hall *h, size_t worker, uint64_t lot);
+uint8_t start_insert(hall *h, size_t worker, uint64_t lot, uint32_t ticket);
+uint8_t start_remove(hall *h, size_t worker, uint64_t lot);
+desk_turn_outcome turn(hall *h, size_t worker);
+desk_run_outcome run(hall *h, const uint8_t *turns, size_t count);
+
+/* Whether a run came to these numbers. */
+bool counts(desk_run_outcome r, uint32_t turns, uint32_t changes, uint32_t lost, uint32_t full, uint8_t stop);
+
+/* The checks of refusals.c. */
+void test_refusals(void);
+
+#endif

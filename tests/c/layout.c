@@ -1,0 +1,86 @@
+/* What desk.h says, as numbers: each struct's size and where each field of it stands, as the library has them, and what each constant
+   stands for. It is compiled as C99, C11, C23 and C++17, with desk.h before anything else; where a line is wrong it does not compile.
+   Whoever has to change a number of it raises DESK_VERSION. */
+#include "desk.h"
+
+#define HOLDS(name, test) typedef char name[(test) ? 1 : -1]
+#define SIZE(type, bytes) HOLDS(size_of_##type, sizeof(type) == (bytes))
+#define AT(type, field, byte) HOLDS(type##_has_##field, offsetof(type, field) == (byte))
+#define IS(constant, number) HOLDS(constant##_is, (constant) == (number))
+
+SIZE(desk_worker, 32);
+AT(desk_worker, key, 0);
+AT(desk_worker, word, 8);
+AT(desk_worker, seen, 16);
+AT(desk_worker, ticket, 24);
+AT(desk_worker, slot, 28);
+AT(desk_worker, kind, 29);
+AT(desk_worker, place, 30);
+AT(desk_worker, held, 31);
+SIZE(desk_floor, 24);
+AT(desk_floor, workers, 0);
+AT(desk_floor, buckets, 8);
+AT(desk_floor, last, 16);
+SIZE(desk_plan, 24);
+AT(desk_plan, workers, 0);
+AT(desk_plan, buckets, 8);
+AT(desk_plan, version, 16);
+SIZE(desk_bid, 16);
+AT(desk_bid, lot, 0);
+AT(desk_bid, ticket, 8);
+SIZE(desk_outcome, 32);
+AT(desk_outcome, floor, 0);
+AT(desk_outcome, refusal, 24);
+SIZE(desk_turn_outcome, 16);
+AT(desk_turn_outcome, answer, 0);
+AT(desk_turn_outcome, refusal, 8);
+AT(desk_turn_outcome, action, 9);
+AT(desk_turn_outcome, ended, 10);
+AT(desk_turn_outcome, full, 11);
+SIZE(desk_totals, 16);
+AT(desk_totals, turns, 0);
+AT(desk_totals, changes, 4);
+AT(desk_totals, lost, 8);
+AT(desk_totals, full, 12);
+SIZE(desk_run_outcome, 20);
+AT(desk_run_outcome, totals, 0);
+AT(desk_run_outcome, stop, 16);
+SIZE(desk_part, 16);
+AT(desk_part, start, 0);
+AT(desk_part, words, 8);
+SIZE(desk_count_outcome, 16);
+AT(desk_count_outcome, lots, 0);
+AT(desk_count_outcome, refusal, 8);
+
+IS(DESK_VERSION, 1);
+IS(DESK_MOST_WORKERS, 64);
+IS(DESK_MOST_BUCKETS, 256);
+IS(DESK_MOST_TURNS, 65535);
+IS(DESK_DONE, 0);
+IS(DESK_WRONG_SIZES, 1);
+IS(DESK_NO_WORKER, 2);
+IS(DESK_BROKEN_RECORD, 3);
+IS(DESK_BUSY_WORKER, 4);
+IS(DESK_SPENT_TICKET, 5);
+IS(DESK_IDLE_WORKER, 6);
+IS(DESK_BROKEN_BUCKET, 7);
+IS(DESK_TOO_LONG, 9);
+IS(DESK_IDLE, 0);
+IS(DESK_LOOK, 1);
+IS(DESK_INSERT, 2);
+IS(DESK_REMOVE, 3);
+IS(DESK_NONE, 0);
+IS(DESK_READ, 1);
+IS(DESK_STORE, 2);
+IS(DESK_WON, 3);
+IS(DESK_LOST, 4);
+IS(DESK_BUCKET_WORDS, 8);
+IS(DESK_SLOTS, 3);
+IS(DESK_NO_SLOT, 3);
+IS(DESK_AT_MARK, 0);
+IS(DESK_AT_KEYS, 1);
+IS(DESK_AT_VALUES, 4);
+IS(DESK_AT_SPARE, 7);
+IS(DESK_MARK_EMPTY, 0);
+IS(DESK_MARK_VALID, 1);
+IS(DESK_MARK_INSERTING, 2);

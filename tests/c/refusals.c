@@ -1,0 +1,180 @@
+/* Every refusal: the number alone, and everything as it was. */
+#include "hall.h"
+
+#define REFUSED(number, call)                  \
+    do {                                       \
+        copy_hall(&before, &one);              \
+        CHECK((call) == (number));             \
+        CHECK(same_hall(&one, &before));       \
+    } while (0)
+
+static uint8_t refused_turn(size_t worker) {
+    desk_turn_outcome t = turn(&one, worker);
+    CHECK(t.action == DESK_NONE && !t.ended && !t.full && t.answer == 0);
+    return t.refusal;
+}
+
+static uint8_t refused_run(const uint8_t *turns, size_t count) {
+    desk_run_outcome r = run(&one, turns, count);
+    CHECK(counts(r, 0, 0, 0, 0, r.stop));
+    return r.stop;
+}
+
+static uint8_t refused_show(uint64_t lot) {
+    desk_part p = desk_show(one.board, one.words, one.floor, lot);
+    CHECK(p.start == 0 && p.words == 0);
+    return desk_show_refusal(one.board, one.words, one.floor, lot);
+}
+
+static uint8_t refused_count(void) {
+    desk_count_outcome c = desk_count(one.board, one.words, one.floor);
+    CHECK(c.lots == 0);
+    return c.refusal;
+}
+
+/* 1, where the sizes do not fit together: each call that takes the list, and each that takes the board alone */
+static void all_give_1(bool board_too) {
+    uint8_t first = 0;
+    REFUSED(DESK_WRONG_SIZES, start_look(&one, 0, 7));
+    REFUSED(DESK_WRONG_SIZES, start_insert(&one, 0, 7, 1));
+    REFUSED(DESK_WRONG_SIZES, start_remove(&one, 0, 7));
+    REFUSED(DESK_WRONG_SIZES, refused_turn(0));
+    REFUSED(DESK_WRONG_SIZES, refused_run(&first, 1));
+    REFUSED(DESK_WRONG_SIZES, refused_run(many, ROOM_FOR_TURNS));
+    if (board_too) {
+        REFUSED(DESK_WRONG_SIZES, refused_show(7));
+        REFUSED(DESK_WRONG_SIZES, refused_count());
+    } else {
+        REFUSED(DESK_DONE, desk_show_refusal(one.board, one.words, one.floor, 7));
+        REFUSED(DESK_DONE, desk_count(one.board, one.words, one.floor).refusal);
+    }
+}
+
+static void test_sizes(void) {
+    size_t workers[] = {0, 65, 66, SIZE_MAX}, buckets[] = {0, 257, SIZE_MAX};
+    fill(&one);
+    for (unsigned i = 0; i < 4; i++) {
+        one.words = 8, one.listed = i < 3 ? workers[i] : 2;
+        REFUSED(DESK_WRONG_SIZES, open_hall(&one, workers[i], 1, 0));
+        opened(&one, 2, 1, 0);
+        one.floor.workers = workers[i], one.listed = i < 3 ? workers[i] : 2;
+        all_give_1(true);
+    }
+    for (unsigned i = 0; i < 3; i++) {
+        fill(&one);
+        one.words = i < 2 ? 8 * buckets[i] : 8, one.listed = 2;
+        REFUSED(DESK_WRONG_SIZES, open_hall(&one, 2, buckets[i], 0));
+        opened(&one, 2, 1, 0);
+        one.floor.buckets = buckets[i], one.words = i < 2 ? 8 * buckets[i] : 8;
+        all_give_1(true);
+    }
+    opened(&one, 64, 256, 0);
+    one.words = 2040;
+    REFUSED(DESK_WRONG_SIZES, open_hall(&one, 64, 256, 0));
+    all_give_1(true);
+    opened(&one, 2, 1, 0);
+    for (size_t listed = 0; listed <= ROOM_FOR_WORKERS; listed += listed < 3 ? 1 : 63) {
+        if (listed == 2) continue;
+        one.listed = listed;
+        REFUSED(DESK_WRONG_SIZES, open_hall(&one, 2, 1, 0));
+        all_give_1(false);
+    }
+}
+
+static void test_workers(void) {
+    uint8_t sixty_four = 64, all = 255;
+    opened(&one, 64, 1, 0);
+    CHECK(start_look(&one, 63, 7) == DESK_DONE);
+    REFUSED(DESK_NO_WORKER, start_look(&one, 64, 7));
+    REFUSED(DESK_NO_WORKER, start_insert(&one, SIZE_MAX, 7, 1));
+    REFUSED(DESK_NO_WORKER, start_remove(&one, 64, 7));
+    REFUSED(DESK_NO_WORKER, refused_turn(64));
+    REFUSED(DESK_NO_WORKER, refused_run(&sixty_four, 1));
+    REFUSED(DESK_NO_WORKER, refused_run(&all, 1));
+}
+
+static void test_records(void) {
+    uint8_t first = 0;
+    opened(&one, 2, 1, 0);
+    one.records[0].held = 2;
+    REFUSED(DESK_BROKEN_RECORD, start_look(&one, 0, 7));
+    REFUSED(DESK_BROKEN_RECORD, start_insert(&one, 0, 7, 0));
+    REFUSED(DESK_BROKEN_RECORD, start_remove(&one, 0, 7));
+    REFUSED(DESK_BROKEN_RECORD, refused_turn(0));
+    REFUSED(DESK_BROKEN_RECORD, refused_run(&first, 1));
+}
+
+/* the worker busy or idle, the ticket, the length of a run; and then the bucket, of which a start asks nothing */
+static void test_calls(void) {
+    uint8_t first = 0, second = 1;
+    opened(&one, 2, 1, 0);
+    REFUSED(DESK_SPENT_TICKET, start_insert(&one, 0, 7, 0));
+    CHECK(start_insert(&one, 0, 7, 4) == DESK_DONE);
+    REFUSED(DESK_BUSY_WORKER, start_look(&one, 0, 7));
+    REFUSED(DESK_BUSY_WORKER, start_insert(&one, 0, 7, 4));
+    REFUSED(DESK_BUSY_WORKER, start_remove(&one, 0, 7));
+    REFUSED(DESK_SPENT_TICKET, start_insert(&one, 1, 7, 4));
+    REFUSED(DESK_IDLE_WORKER, refused_turn(1));
+    REFUSED(DESK_IDLE_WORKER, refused_run(&second, 1));
+    REFUSED(DESK_TOO_LONG, refused_run(many, ROOM_FOR_TURNS));
+    REFUSED(DESK_DONE, refused_run(many, 0));
+
+    one.board[DESK_AT_SPARE] = 1;
+    REFUSED(DESK_BROKEN_BUCKET, refused_turn(0));
+    REFUSED(DESK_BROKEN_BUCKET, refused_run(&first, 1));
+    REFUSED(DESK_BROKEN_BUCKET, refused_show(7));
+    REFUSED(DESK_BROKEN_BUCKET, refused_count());
+    REFUSED(DESK_IDLE_WORKER, refused_turn(1)); /* which comes first */
+    CHECK(start_look(&one, 1, 7) == DESK_DONE);
+}
+
+/* of two buckets one is broken: a turn and a show go by their lot's own, a count by any */
+static void test_buckets(void) {
+    opened(&one, 2, 2, 0);
+    CHECK(start_look(&one, 0, 4) == DESK_DONE && start_look(&one, 1, 5) == DESK_DONE);
+    one.board[8] = 3ull << 48; /* a mark over 2 in the bucket of the odd lots */
+    CHECK(turn(&one, 0).refusal == DESK_DONE);
+    REFUSED(DESK_BROKEN_BUCKET, refused_turn(1));
+    CHECK(desk_show_refusal(one.board, one.words, one.floor, 4) == DESK_DONE);
+    REFUSED(DESK_BROKEN_BUCKET, refused_show(5));
+    REFUSED(DESK_BROKEN_BUCKET, refused_count());
+}
+
+/* a run stops before its first refused turn, tells its number, and the turns done stand: the ninth of twenty is refused by `number` */
+static void stops(uint8_t number, uint8_t ninth) {
+    for (unsigned i = 0; i < 20; i++) many[i] = i == 8 ? ninth : 0;
+    copy_hall(&two, &one);
+    CHECK(counts(run(&one, many, 20), 8, 1, 0, 0, number));
+    for (unsigned i = 0; i < 8; i++) CHECK(turn(&two, 0).refusal == DESK_DONE);
+    CHECK(same_hall(&one, &two));
+}
+
+static void opened_with_insert(void) {
+    opened(&one, 3, 2, 0);
+    CHECK(start_insert(&one, 0, 4, 1) == DESK_DONE);
+}
+
+static void test_stops(void) {
+    opened_with_insert();
+    stops(DESK_NO_WORKER, 3);
+    CHECK(one.board[0] == 8589934592u);
+    opened_with_insert();
+    one.records[1].place = 14;
+    stops(DESK_BROKEN_RECORD, 1);
+    opened_with_insert();
+    stops(DESK_IDLE_WORKER, 1);
+    opened_with_insert();
+    CHECK(start_look(&one, 2, 5) == DESK_DONE);
+    one.board[15] = 1;
+    stops(DESK_BROKEN_BUCKET, 2);
+}
+
+
+void test_refusals(void) {
+    test_sizes();
+    test_workers();
+    test_records();
+    test_calls();
+    test_buckets();
+    test_stops();
+}
