@@ -1,0 +1,127 @@
+/* The proved library beside the engine by hand:
+
+     bench compare [SEED]                      both on the same random histories; exit status 1 at the first difference
+     bench times                               a table of times
+     bench operations                          the operations whose instructions are counted, with N, W and how many repetitions
+     bench count SIDE OPERATION N W REPEATS    just that, so often, and how many units one repetition has; SIDE is desk, plain or nobody
+
+   What is told of an operation is the caller's loop with the call less the loop without it, so passing the arguments is in it. */
+#include "histories.h"
+#include "libc.h"
+#include "operations.h"
+
+enum { DEFAULT_SEED = 1, SIZES = 3, ROUNDS = 40, MONOTONIC = 1, LONG_ENOUGH = 100000 };
+
+static const size_t bucket_sizes[SIZES] = {1, 16, 256}, worker_sizes[SIZES] = {2, 8, 64};
+static stage the_stage;
+
+/* ---- times */
+
+static double nanoseconds(void) {
+    struct timespec now;
+    clock_gettime(MONOTONIC, &now);
+    return 1e9 * (double)now.tv_sec + (double)now.tv_nsec;
+}
+
+static double time_of(const operation *o, const side *s, size_t repeats) {
+    reset(&the_stage);
+    double before = nanoseconds();
+    o->repeat(s, &the_stage, repeats);
+    return nanoseconds() - before;
+}
+
+/* each side is called once before, so that what only a first call takes (and an emulator takes much) counts for nothing */
+static size_t enough_repeats(const operation *o) {
+    size_t repeats = 1;
+    time_of(o, &proved, 1);
+    time_of(o, &by_hand, 1);
+    while (time_of(o, &by_hand, repeats) < LONG_ENOUGH) repeats *= 2;
+    return repeats;
+}
+
+static void keep_least(double *least, double one) {
+    if (*least > one) *least = one;
+}
+
+/* in alternation, so that whatever else the machine does meets all sides; the least time is the one that was disturbed least */
+static void time_row(const operation *o, size_t buckets, size_t workers) {
+    prepare(o, &the_stage, buckets, workers);
+    size_t repeats = enough_repeats(o);
+    double desk = 1e30, plain = 1e30, loop = 1e30;
+    for (size_t i = 0; i < ROUNDS; i++) {
+        keep_least(&desk, time_of(o, &proved, repeats));
+        keep_least(&plain, time_of(o, &by_hand, repeats));
+        keep_least(&loop, time_of(o, &nobody, repeats));
+    }
+    double units = (double)(repeats * o->units(&the_stage));
+    printf("%-13s %4lu %3lu %-5s %10.2f %10.2f %7.2f\n", o->name, buckets, workers, o->unit, (desk - loop) / units, (plain - loop) / units,
+        (desk - loop) / (plain - loop));
+    fflush(0);
+}
+
+static void time_rows(const operation *o) {
+    for (size_t n = 0; n < SIZES; n++)
+        for (size_t w = 0; w < SIZES; w++)
+            if (o->every_size || n == w) time_row(o, bucket_sizes[n], worker_sizes[w]);
+}
+
+static void tell_times(void) {
+    printf("%-13s %4s %3s %-5s %10s %10s %7s\n", "operation", "N", "W", "each", "desk", "plain", "ratio");
+    for (size_t i = 0; i < OPERATIONS; i++) time_rows(&operations[i]);
+}
+
+/* ---- counting */
+
+/* a run comes to the same instructions in whatever order its workers stand, so the shuffled one is not counted */
+static void tell_operations(void) {
+    for (size_t i = 0; i < OPERATIONS; i++) {
+        const operation *o = &operations[i];
+        if (strcmp(o->name, "shuffled-run") == 0) continue;
+        for (size_t n = 0; n < SIZES; n++)
+            printf("%s %s %lu %lu %lu\n", o->name, o->unit, bucket_sizes[n], worker_sizes[n], o->repeats);
+    }
+}
+
+static const side *find_side(const char *name) {
+    static const side *const sides[] = {&proved, &by_hand, &nobody};
+    for (size_t i = 0; i < sizeof sides / sizeof sides[0]; i++)
+        if (strcmp(sides[i]->name, name) == 0) return sides[i];
+    return 0;
+}
+
+static const operation *find_operation(const char *name) {
+    for (size_t i = 0; i < OPERATIONS; i++)
+        if (strcmp(operations[i].name, name) == 0) return &operations[i];
+    return 0;
+}
+
+static bool within(size_t number, size_t most) {
+    return number >= 1 && number <= most;
+}
+
+static int count(char **words) {
+    const side *s = find_side(words[0]);
+    const operation *o = find_operation(words[1]);
+    size_t buckets = strtoul(words[2], 0, 10), workers = strtoul(words[3], 0, 10), repeats = strtoul(words[4], 0, 10);
+    if (!s || !o || !within(buckets, MOST_BUCKETS) || !within(workers, MOST_WORKERS)) {
+        printf("bench: no such side, operation or size\n");
+        return 2;
+    }
+    prepare(o, &the_stage, buckets, workers);
+    o->repeat(s, &the_stage, repeats);
+    printf("%lu\n", o->units(&the_stage));
+    return 0;
+}
+
+int main(int many, char **words) {
+    const char *what = many > 1 ? words[1] : "";
+    if (strcmp(what, "compare") == 0) return compare_histories(many > 2 ? strtoul(words[2], 0, 10) : DEFAULT_SEED) ? 0 : 1;
+    if (strcmp(what, "count") == 0 && many == 7) return count(words + 2);
+    if (strcmp(what, "times") == 0) tell_times();
+    else if (strcmp(what, "operations") == 0) tell_operations();
+    else {
+        printf("bench: compare [SEED], times, operations, or count SIDE OPERATION N W REPEATS\n");
+        return 2;
+    }
+    return 0;
+}

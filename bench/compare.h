@@ -1,0 +1,34 @@
+/* The same call on both sides: the answer, the floor, every word and every record must come out the same. */
+#ifndef COMPARE_H
+#define COMPARE_H
+
+#include "side.h"
+
+typedef enum { OPEN, START_LOOK, START_INSERT, START_REMOVE, TURN, RUN, SHOW, COUNT, CALLS } which;
+
+/* each call takes of these what it needs */
+typedef struct {
+    which which;
+    desk_plan plan;
+    size_t worker;
+    uint64_t lot;
+    uint32_t ticket;
+    const uint8_t *turns;
+    size_t count;
+} call;
+
+/* a hall of the proved library's and one of the engine's by hand, which begin the same */
+typedef struct {
+    hall desk, plain;
+} pair;
+
+/* begins a history: from here on the second hall is the first's twin */
+void begin(pair *p, uint64_t seed, uint64_t history);
+
+/* makes a call on both, and ends the program at the first difference; the number of refusal, or 0 */
+uint8_t make(pair *p, const call *c);
+
+/* says how many calls were compared and what they met; whether that is all there is */
+bool met_everything(void);
+
+#endif

@@ -1,0 +1,223 @@
+#include "operations.h"
+#include "libc.h"
+
+/* ---- halls */
+
+static const desk_worker idle_record = {.held = HOLDS_NONE};
+
+/* every bucket has so many valid lots, as after an opening at version 0 and their inserts */
+static void fill_board(hall *h, size_t buckets, size_t lots) {
+    h->words = BUCKET_WORDS * buckets;
+    h->floor.buckets = buckets;
+    for (size_t number = 0; number < buckets; number++) {
+        uint64_t *bucket = h->board + BUCKET_WORDS * number;
+        for (size_t i = 0; i < BUCKET_WORDS; i++) bucket[i] = 0;
+        bucket[0] = lots;
+        for (size_t slot = 0; slot < lots; slot++) {
+            bucket[0] |= (uint64_t)1 << (32 + 8 * slot);
+            bucket[1 + slot] = number + slot * buckets;
+            bucket[4 + slot] = 1 + slot + lots * number;
+        }
+    }
+    h->floor.last = (uint32_t)(lots * buckets);
+}
+
+static void send_idle(hall *h, size_t workers) {
+    h->listed = h->floor.workers = workers;
+    for (size_t i = 0; i < workers; i++) h->records[i] = idle_record;
+}
+
+/* the record that a start leaves */
+static void start(hall *h, size_t worker, uint8_t kind, uint64_t lot) {
+    desk_worker *w = &h->records[worker];
+    *w = (desk_worker){.kind = kind, .place = kind == LOOK ? 2 : 1, .key = lot, .held = HOLDS_NONE};
+    if (kind == INSERT) w->ticket = ++h->floor.last;
+}
+
+/* ---- scenes */
+
+static void idle_scene(stage *g, size_t buckets, size_t workers) {
+    hall *h = &g->scenes[0].first;
+    fill_board(h, buckets, 1);
+    send_idle(h, workers);
+    g->scenes[0].count = 0;
+}
+
+/* Every bucket is full, and every worker inserts one more lot: they go round for ever, so a run can be of any length and its turns are
+   all accepted. The board stays as it is, and a record comes round with every tenth turn, so nothing has to be put back. */
+static void full_scene(stage *g, size_t buckets, size_t workers) {
+    hall *h = &g->scenes[0].first;
+    fill_board(h, buckets, SLOTS);
+    send_idle(h, workers);
+    for (size_t i = 0; i < workers; i++) start(h, i, INSERT, SLOTS * buckets + i % buckets);
+    g->scenes[0].count = LONG_RUN;
+    for (size_t i = 0; i < LONG_RUN; i++) g->scenes[0].turns[i] = (uint8_t)(i % workers);
+}
+
+static void short_scene(stage *g, size_t buckets, size_t workers) {
+    full_scene(g, buckets, workers);
+    g->scenes[0].count = SHORT_RUN;
+}
+
+/* the same turns in no order, as a class would call them: whoever predicts the next place is wrong more often */
+static void shuffled_scene(stage *g, size_t buckets, size_t workers) {
+    full_scene(g, buckets, workers);
+    chance c = {.state = 1};
+    for (size_t i = LONG_RUN - 1; i > 0; i--) {
+        size_t other = below(&c, i + 1);
+        uint8_t turn = g->scenes[0].turns[i];
+        g->scenes[0].turns[i] = g->scenes[0].turns[other];
+        g->scenes[0].turns[other] = turn;
+    }
+}
+
+/* turns in order, each worker's until its call ends, so that none is refused; the engine by hand says when that is */
+static void play_to_the_end(stage *g, scene *s) {
+    hall *h = &g->now;
+    memcpy(h, &s->first, sizeof *h);
+    bool busy = true;
+    for (s->count = 0; busy;) {
+        busy = false;
+        for (size_t i = 0; i < h->listed && s->count < LONG_RUN; i++) {
+            if (h->records[i].kind == IDLE) continue;
+            by_hand.turn(h->board, h->words, h->records, h->listed, h->floor, i);
+            s->turns[s->count++] = (uint8_t)i;
+            busy = true;
+        }
+    }
+}
+
+/* Each worker has a call, and the turns go round until all calls have ended: every place comes up, swaps win and lose. A look, an
+   insert and a remove come to each worker once, in three scenes. Half of the lots stand. */
+static void mixed_scenes(stage *g, size_t buckets, size_t workers) {
+    chance c = {.state = 1};
+    for (size_t k = 0; k < SCENES; k++) {
+        hall *h = &g->scenes[k].first;
+        fill_board(h, buckets, 1);
+        send_idle(h, workers);
+        for (size_t i = 0; i < workers; i++) start(h, i, (uint8_t)(LOOK + (i + k) % 3), below(&c, 2 * buckets));
+        play_to_the_end(g, &g->scenes[k]);
+    }
+}
+
+void reset(stage *g) {
+    memcpy(&g->now, &g->scenes[0].first, sizeof g->now);
+}
+
+void prepare(const operation *o, stage *g, size_t buckets, size_t workers) {
+    o->prepare(g, buckets, workers);
+    reset(g);
+}
+
+/* ---- repeating. A side without the call is there for what the loop itself takes. */
+
+static void repeat_run(const side *s, stage *g, size_t repeats) {
+    hall *h = &g->now;
+    const scene *c = &g->scenes[0];
+    for (; repeats > 0; repeats--)
+        if (s->run) s->run(h->board, h->words, h->records, h->listed, h->floor, c->turns, c->count);
+}
+
+/* only the buckets of these calls can have changed */
+static void put_back(hall *now, const hall *first) {
+    for (size_t i = 0; i < first->listed; i++) {
+        size_t from = BUCKET_WORDS * (first->records[i].key % first->floor.buckets);
+        for (size_t word = from; word < from + BUCKET_WORDS; word++) now->board[word] = first->board[word];
+        now->records[i] = first->records[i];
+    }
+}
+
+static void repeat_mixed(const side *s, stage *g, size_t repeats) {
+    hall *h = &g->now;
+    for (; repeats > 0; repeats--)
+        for (const scene *c = g->scenes; c < g->scenes + SCENES; c++) {
+            put_back(h, &c->first);
+            if (s->run) s->run(h->board, h->words, h->records, h->listed, h->floor, c->turns, c->count);
+        }
+}
+
+static size_t next_worker(const hall *h, size_t worker) {
+    return worker + 1 < h->listed ? worker + 1 : 0;
+}
+
+static void repeat_turn(const side *s, stage *g, size_t repeats) {
+    hall *h = &g->now;
+    for (size_t worker = 0; repeats > 0; repeats--, worker = next_worker(h, worker))
+        if (s->turn) s->turn(h->board, h->words, h->records, h->listed, h->floor, worker);
+}
+
+static void repeat_start_look(const side *s, stage *g, size_t repeats) {
+    hall *h = &g->now;
+    for (size_t worker = 0; repeats > 0; repeats--, worker = next_worker(h, worker)) {
+        h->records[worker] = idle_record;
+        if (s->start_look) s->start_look(h->board, h->words, h->records, h->listed, h->floor, worker, repeats);
+    }
+}
+
+/* the floor that is handed back is not passed on, so that one ticket serves */
+static void repeat_start_insert(const side *s, stage *g, size_t repeats) {
+    hall *h = &g->now;
+    desk_bid bid = {.ticket = h->floor.last + 1};
+    for (size_t worker = 0; repeats > 0; repeats--, worker = next_worker(h, worker)) {
+        h->records[worker] = idle_record;
+        bid.lot = repeats;
+        if (s->start_insert) s->start_insert(h->board, h->words, h->records, h->listed, h->floor, worker, bid);
+    }
+}
+
+static void repeat_start_remove(const side *s, stage *g, size_t repeats) {
+    hall *h = &g->now;
+    for (size_t worker = 0; repeats > 0; repeats--, worker = next_worker(h, worker)) {
+        h->records[worker] = idle_record;
+        if (s->start_remove) s->start_remove(h->board, h->words, h->records, h->listed, h->floor, worker, repeats);
+    }
+}
+
+static void repeat_open(const side *s, stage *g, size_t repeats) {
+    hall *h = &g->now;
+    desk_plan plan = {.workers = h->floor.workers, .buckets = h->floor.buckets, .version = 7};
+    for (; repeats > 0; repeats--)
+        if (s->open_floor) s->open_floor(h->board, h->words, h->records, h->listed, h->floor, plan);
+}
+
+static void repeat_show(const side *s, stage *g, size_t repeats) {
+    const hall *h = &g->now;
+    for (; repeats > 0; repeats--)
+        if (s->show) s->show(h->board, h->words, h->floor, repeats);
+}
+
+static void repeat_count(const side *s, stage *g, size_t repeats) {
+    const hall *h = &g->now;
+    for (; repeats > 0; repeats--)
+        if (s->count) s->count(h->board, h->words, h->floor);
+}
+
+/* ---- the list of them */
+
+static size_t one(const stage *g) {
+    (void)g;
+    return 1;
+}
+
+static size_t turns_of_run(const stage *g) {
+    return g->scenes[0].count;
+}
+
+static size_t turns_of_scenes(const stage *g) {
+    return g->scenes[0].count + g->scenes[1].count + g->scenes[2].count;
+}
+
+const operation operations[OPERATIONS] = {
+    {"long-run", "turn", full_scene, repeat_run, turns_of_run, 1, true},
+    {"shuffled-run", "turn", shuffled_scene, repeat_run, turns_of_run, 1, true},
+    {"mixed-run", "turn", mixed_scenes, repeat_mixed, turns_of_scenes, 1, true},
+    {"short-run", "turn", short_scene, repeat_run, turns_of_run, 40, true},
+    {"turn", "call", full_scene, repeat_turn, one, WHOLE_ROUNDS, true},
+    {"start-look", "call", idle_scene, repeat_start_look, one, 64, false},
+    {"start-insert", "call", idle_scene, repeat_start_insert, one, 64, false},
+    {"start-remove", "call", idle_scene, repeat_start_remove, one, 64, false},
+    {"open", "call", idle_scene, repeat_open, one, 8, false},
+    {"empty-run", "call", idle_scene, repeat_run, one, 64, false},
+    {"count", "call", idle_scene, repeat_count, one, 8, false},
+    {"show", "call", idle_scene, repeat_show, one, 64, false},
+};

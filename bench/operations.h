@@ -1,0 +1,43 @@
+/* The operations that are measured. Each is repeated on a stage that stands the same for every side. */
+#ifndef OPERATIONS_H
+#define OPERATIONS_H
+
+#include "side.h"
+
+/* An insert on a full bucket goes round in ten turns: with any number of workers here, so many turns leave each where it stood. */
+enum { WHOLE_ROUNDS = 10 * MOST_WORKERS, LONG_RUN = 6 * WHOLE_ROUNDS, SHORT_RUN = 8, SCENES = 3 };
+
+/* a hall as it stands before, and a run of turns on it */
+typedef struct {
+    hall first;
+    uint8_t turns[LONG_RUN];
+    size_t count;
+} scene;
+
+/* most operations play in the first scene only */
+typedef struct {
+    scene scenes[SCENES];
+    hall now;
+} stage;
+
+typedef struct {
+    const char *name;
+    const char *unit;
+    void (*prepare)(stage *, size_t buckets, size_t workers);
+    void (*repeat)(const side *, stage *, size_t repeats);
+    /* how many units one repetition comes to */
+    size_t (*units)(const stage *);
+    /* how many repetitions to count instructions over: few, but as many as leave every worker where it stood */
+    size_t repeats;
+    /* whether it is measured for every N with every W, or only for the least, the middle and the greatest of both together */
+    bool every_size;
+} operation;
+
+enum { OPERATIONS = 12 };
+extern const operation operations[OPERATIONS];
+
+/* sets a stage up for an operation, and puts it back where that left it before */
+void prepare(const operation *, stage *, size_t buckets, size_t workers);
+void reset(stage *);
+
+#endif

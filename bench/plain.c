@@ -1,0 +1,305 @@
+/* The engine of the document of rules as one would write it in C who has only those rules: it works on the lent memory itself, tests
+   the sizes once for each call, and has one switch over the place. */
+#include "plain.h"
+
+enum { MOST_WORKERS = 64, MOST_BUCKETS = 256, MOST_TURNS = 65535 };
+
+/* a bucket: where its mark word, its keys, its values and its spare word stand */
+enum { SLOTS = 3, MARKS = 0, KEYS = 1, VALUES = 4, SPARE = 7, BUCKET_WORDS = 8 };
+
+/* the marks of a slot */
+enum { EMPTY = 0, VALID = 1, INSERTING = 2 };
+
+/* the kinds of a record, and held where a worker holds no slot */
+enum { IDLE = 0, LOOK = 1, INSERT = 2, REMOVE = 3, HOLDS_NONE = 3 };
+
+static const desk_worker idle_record = {.held = HOLDS_NONE};
+
+/* ---- the mark word */
+
+static unsigned mark_shift(unsigned slot) {
+    return 32 + 8 * slot;
+}
+
+static unsigned mark(uint64_t word, unsigned slot) {
+    return word >> mark_shift(slot) & 0xff;
+}
+
+static uint64_t with_mark(uint64_t word, unsigned slot, uint64_t to) {
+    return (word & ~((uint64_t)0xff << mark_shift(slot))) | to << mark_shift(slot);
+}
+
+static uint64_t with_next_version(uint64_t word) {
+    return (word & 0xffffffff00000000) | (uint32_t)(word + 1);
+}
+
+/* a mark over 2 has a bit above the lowest two, or both of these; byte 7 has no bit at all */
+static bool broken_word(uint64_t word) {
+    uint64_t above = word & 0xfffcfcfc00000000;
+    uint64_t both = word & word >> 1 & 0x0001010100000000;
+    return (above | both) != 0;
+}
+
+static unsigned first_empty(uint64_t word) {
+    unsigned slot = 0;
+    while (slot < SLOTS && mark(word, slot) != EMPTY) slot++;
+    return slot;
+}
+
+static bool broken_bucket(const uint64_t *bucket) {
+    return broken_word(bucket[MARKS]) || bucket[SPARE] != 0;
+}
+
+/* ---- the records */
+
+static bool idle(const desk_worker *w) {
+    return w->kind == IDLE && w->place == 0 && w->key == 0 && w->ticket == 0 && w->slot == 0 && w->word == 0 &&
+        w->held == HOLDS_NONE && w->seen == 0;
+}
+
+static bool held_fits(unsigned place, unsigned held) {
+    if (place == 6) return held == HOLDS_NONE;
+    return place < 6 ? held <= HOLDS_NONE : held < SLOTS;
+}
+
+static bool broken_record(const desk_worker *w) {
+    if (w->slot >= SLOTS) return true;
+    switch (w->kind) {
+    case IDLE:
+        return !idle(w);
+    case LOOK:
+        return w->place < 2 || w->place > 5 || w->ticket != 0 || w->held != HOLDS_NONE || w->word != 0;
+    case INSERT:
+        return w->place < 1 || w->place > 10 || w->ticket == 0 || !held_fits(w->place, w->held) || broken_word(w->word);
+    case REMOVE:
+        return (w->place != 1 && (w->place < 11 || w->place > 13)) || w->ticket != 0 || w->held != HOLDS_NONE || broken_word(w->word);
+    default:
+        return true;
+    }
+}
+
+/* ---- the sizes */
+
+/* N is tested before it is multiplied, so that no product goes over */
+static bool board_fits(size_t words, size_t workers, size_t buckets) {
+    return workers - 1 < MOST_WORKERS && buckets - 1 < MOST_BUCKETS && words == BUCKET_WORDS * buckets;
+}
+
+static bool hall_fits(size_t words, size_t listed, size_t workers, size_t buckets) {
+    return board_fits(words, workers, buckets) && listed == workers;
+}
+
+static size_t bucket_start(uint64_t lot, size_t buckets) {
+    return BUCKET_WORDS * (lot % buckets);
+}
+
+/* ---- opening */
+
+static desk_outcome answer_floor(uint8_t refusal, desk_floor floor) {
+    return (desk_outcome){.refusal = refusal, .floor = floor};
+}
+
+desk_outcome plain_open_floor(uint64_t *board, size_t words, desk_worker *records, size_t listed, desk_floor floor, desk_plan plan) {
+    if (!hall_fits(words, listed, plan.workers, plan.buckets)) return answer_floor(DESK_WRONG_SIZES, floor);
+    for (size_t at = 0; at < words; at += BUCKET_WORDS) {
+        board[at + MARKS] = plan.version;
+        for (size_t i = KEYS; i < BUCKET_WORDS; i++) board[at + i] = 0;
+    }
+    for (size_t i = 0; i < listed; i++) records[i] = idle_record;
+    return answer_floor(0, (desk_floor){.workers = plan.workers, .buckets = plan.buckets, .last = 0});
+}
+
+/* ---- starting */
+
+static uint8_t refuse_start(size_t words, const desk_worker *records, size_t listed, const desk_floor *floor, size_t worker) {
+    if (!hall_fits(words, listed, floor->workers, floor->buckets)) return DESK_WRONG_SIZES;
+    if (worker >= listed) return DESK_NO_WORKER;
+    if (idle(&records[worker])) return 0;
+    return broken_record(&records[worker]) ? DESK_BROKEN_RECORD : DESK_BUSY_WORKER;
+}
+
+desk_outcome plain_start_look(const uint64_t *board, size_t words, desk_worker *records, size_t listed, desk_floor floor,
+    size_t worker, uint64_t lot) {
+    (void)board;
+    uint8_t refusal = refuse_start(words, records, listed, &floor, worker);
+    if (refusal == 0) records[worker] = (desk_worker){.kind = LOOK, .place = 2, .key = lot, .held = HOLDS_NONE};
+    return answer_floor(refusal, floor);
+}
+
+desk_outcome plain_start_insert(const uint64_t *board, size_t words, desk_worker *records, size_t listed, desk_floor floor,
+    size_t worker, desk_bid bid) {
+    (void)board;
+    uint8_t refusal = refuse_start(words, records, listed, &floor, worker);
+    if (refusal == 0 && bid.ticket <= floor.last) refusal = DESK_SPENT_TICKET;
+    if (refusal == 0) {
+        records[worker] = (desk_worker){.kind = INSERT, .place = 1, .key = bid.lot, .ticket = bid.ticket, .held = HOLDS_NONE};
+        floor.last = bid.ticket;
+    }
+    return answer_floor(refusal, floor);
+}
+
+desk_outcome plain_start_remove(const uint64_t *board, size_t words, desk_worker *records, size_t listed, desk_floor floor,
+    size_t worker, uint64_t lot) {
+    (void)board;
+    uint8_t refusal = refuse_start(words, records, listed, &floor, worker);
+    if (refusal == 0) records[worker] = (desk_worker){.kind = REMOVE, .place = 1, .key = lot, .held = HOLDS_NONE};
+    return answer_floor(refusal, floor);
+}
+
+/* ---- one turn */
+
+static desk_turn_outcome refused(uint8_t refusal) {
+    return (desk_turn_outcome){.refusal = refusal};
+}
+
+static desk_turn_outcome goes_on(desk_worker *w, uint8_t action, uint8_t place) {
+    w->place = place;
+    return (desk_turn_outcome){.action = action};
+}
+
+static desk_turn_outcome ends(desk_worker *w, uint8_t action, uint64_t answer) {
+    *w = idle_record;
+    return (desk_turn_outcome){.action = action, .ended = true, .answer = answer};
+}
+
+/* a look call answers; an insert takes a slot, or commits the one it holds, or goes round once more where none is empty */
+static desk_turn_outcome look_is_empty(desk_worker *w) {
+    if (w->kind == LOOK) return ends(w, DESK_READ, 0);
+    if (w->held != HOLDS_NONE) return goes_on(w, DESK_READ, 9);
+    unsigned slot = first_empty(w->word);
+    if (slot < SLOTS) {
+        w->slot = (uint8_t)slot;
+        return goes_on(w, DESK_READ, 6);
+    }
+    w->slot = 0;
+    w->place = 1;
+    return (desk_turn_outcome){.action = DESK_READ, .full = true};
+}
+
+static desk_turn_outcome look_finds(desk_worker *w) {
+    if (w->kind == LOOK) return ends(w, DESK_READ, w->seen);
+    return w->held == HOLDS_NONE ? ends(w, DESK_READ, 0) : goes_on(w, DESK_READ, 10);
+}
+
+static desk_turn_outcome look_on(desk_worker *w) {
+    if (w->slot == SLOTS - 1) return look_is_empty(w);
+    w->slot++;
+    return goes_on(w, DESK_READ, 2);
+}
+
+static desk_turn_outcome remove_on(desk_worker *w) {
+    if (w->slot == SLOTS - 1) return ends(w, DESK_READ, 0);
+    w->slot++;
+    return goes_on(w, DESK_READ, 11);
+}
+
+/* the record is busy and not broken, and the bucket is not broken */
+static desk_turn_outcome act(uint64_t *bucket, desk_worker *w) {
+    switch (w->place) {
+    case 1:
+        w->word = bucket[MARKS];
+        w->slot = 0;
+        return goes_on(w, DESK_READ, w->kind == INSERT ? 2 : 11);
+    case 2:
+        w->seen = bucket[VALUES + w->slot];
+        return goes_on(w, DESK_READ, 3);
+    case 3:
+        return mark(bucket[MARKS], w->slot) == VALID ? goes_on(w, DESK_READ, 4) : look_on(w);
+    case 4:
+        return bucket[KEYS + w->slot] == w->key ? goes_on(w, DESK_READ, 5) : look_on(w);
+    case 5:
+        return w->seen != 0 && bucket[VALUES + w->slot] == w->seen ? look_finds(w) : look_is_empty(w);
+    case 6:
+        if (bucket[MARKS] != w->word) return goes_on(w, DESK_LOST, 1);
+        w->word = with_mark(w->word, w->slot, INSERTING);
+        bucket[MARKS] = w->word;
+        w->held = w->slot;
+        return goes_on(w, DESK_WON, 7);
+    case 7:
+        bucket[VALUES + w->held] = w->ticket;
+        return goes_on(w, DESK_STORE, 8);
+    case 8:
+        bucket[KEYS + w->held] = w->key;
+        return goes_on(w, DESK_STORE, 9);
+    case 9:
+        if (bucket[MARKS] != with_mark(w->word, w->held, INSERTING)) return goes_on(w, DESK_LOST, 1);
+        bucket[MARKS] = with_next_version(with_mark(w->word, w->held, VALID));
+        return ends(w, DESK_WON, 1);
+    case 10:
+        bucket[MARKS] = with_mark(bucket[MARKS], w->held, EMPTY);
+        return ends(w, DESK_STORE, 0);
+    case 11:
+        if (bucket[KEYS + w->slot] != w->key || mark(w->word, w->slot) != VALID) return remove_on(w);
+        return goes_on(w, DESK_READ, 12);
+    case 12:
+        w->seen = bucket[VALUES + w->slot];
+        return goes_on(w, DESK_READ, 13);
+    default: /* 13: a record that is not broken has no other place */
+        if (bucket[MARKS] != w->word) return goes_on(w, DESK_LOST, 1);
+        bucket[MARKS] = with_mark(w->word, w->slot, EMPTY);
+        return ends(w, DESK_WON, w->seen);
+    }
+}
+
+/* the sizes are right */
+static desk_turn_outcome give_turn(uint64_t *board, desk_worker *records, size_t workers, size_t buckets, size_t worker) {
+    if (worker >= workers) return refused(DESK_NO_WORKER);
+    desk_worker *w = &records[worker];
+    if (broken_record(w)) return refused(DESK_BROKEN_RECORD);
+    if (w->kind == IDLE) return refused(DESK_IDLE_WORKER);
+    uint64_t *bucket = board + bucket_start(w->key, buckets);
+    if (broken_bucket(bucket)) return refused(DESK_BROKEN_BUCKET);
+    return act(bucket, w);
+}
+
+desk_turn_outcome plain_turn(uint64_t *board, size_t words, desk_worker *records, size_t listed, desk_floor floor, size_t worker) {
+    if (!hall_fits(words, listed, floor.workers, floor.buckets)) return refused(DESK_WRONG_SIZES);
+    return give_turn(board, records, floor.workers, floor.buckets, worker);
+}
+
+/* ---- a run of turns */
+
+/* a store that ends a call is place 10's */
+static bool is_change(desk_turn_outcome turn) {
+    return turn.action == DESK_WON || (turn.action == DESK_STORE && turn.ended);
+}
+
+desk_run_outcome plain_run(uint64_t *board, size_t words, desk_worker *records, size_t listed, desk_floor floor,
+    const uint8_t *turns, size_t count) {
+    desk_totals totals = {0};
+    if (!hall_fits(words, listed, floor.workers, floor.buckets)) return (desk_run_outcome){.totals = totals, .stop = DESK_WRONG_SIZES};
+    if (count > MOST_TURNS) return (desk_run_outcome){.totals = totals, .stop = DESK_TOO_LONG};
+    for (size_t i = 0; i < count; i++) {
+        desk_turn_outcome turn = give_turn(board, records, floor.workers, floor.buckets, turns[i]);
+        if (turn.refusal != 0) return (desk_run_outcome){.totals = totals, .stop = turn.refusal};
+        totals.turns++;
+        totals.changes += is_change(turn);
+        totals.lost += turn.action == DESK_LOST;
+        totals.full += turn.full;
+    }
+    return (desk_run_outcome){.totals = totals, .stop = 0};
+}
+
+/* ---- showing and counting */
+
+uint8_t plain_show_refusal(const uint64_t *board, size_t words, desk_floor floor, uint64_t lot) {
+    if (!board_fits(words, floor.workers, floor.buckets)) return DESK_WRONG_SIZES;
+    return broken_bucket(board + bucket_start(lot, floor.buckets)) ? DESK_BROKEN_BUCKET : 0;
+}
+
+desk_part plain_show(const uint64_t *board, size_t words, desk_floor floor, uint64_t lot) {
+    desk_part nothing = {.start = 0, .words = 0};
+    if (!board_fits(words, floor.workers, floor.buckets)) return nothing;
+    size_t start = bucket_start(lot, floor.buckets);
+    return broken_bucket(board + start) ? nothing : (desk_part){.start = start, .words = BUCKET_WORDS};
+}
+
+desk_count_outcome plain_count(const uint64_t *board, size_t words, desk_floor floor) {
+    if (!board_fits(words, floor.workers, floor.buckets)) return (desk_count_outcome){.refusal = DESK_WRONG_SIZES};
+    size_t lots = 0;
+    for (size_t at = 0; at < words; at += BUCKET_WORDS) {
+        if (broken_bucket(board + at)) return (desk_count_outcome){.refusal = DESK_BROKEN_BUCKET};
+        for (unsigned slot = 0; slot < SLOTS; slot++) lots += mark(board[at + MARKS], slot) != EMPTY;
+    }
+    return (desk_count_outcome){.refusal = 0, .lots = lots};
+}

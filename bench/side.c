@@ -1,0 +1,30 @@
+#include "side.h"
+#include "plain.h"
+
+const side proved = {
+    .name = "desk",
+    .open_floor = desk_open_floor,
+    .start_look = desk_start_look,
+    .start_insert = desk_start_insert,
+    .start_remove = desk_start_remove,
+    .turn = desk_turn,
+    .run = desk_run,
+    .show = desk_show,
+    .show_refusal = desk_show_refusal,
+    .count = desk_count,
+};
+
+const side by_hand = {
+    .name = "plain",
+    .open_floor = plain_open_floor,
+    .start_look = plain_start_look,
+    .start_insert = plain_start_insert,
+    .start_remove = plain_start_remove,
+    .turn = plain_turn,
+    .run = plain_run,
+    .show = plain_show,
+    .show_refusal = plain_show_refusal,
+    .count = plain_count,
+};
+
+const side nobody = {.name = "nobody"};
