@@ -1,25 +1,13 @@
--- Two outcomes that meet the promise of a turn, of a show or of a count are equal. The other calls promise one equation, and
+-- Two outcomes that meet the promise of a show or of a count are equal. The other calls promise one equation, and
 -- one-outcome of turn or one-answer of mark says it of them. Assumes nothing.
 use Prim.Native.Nat.{ℕ}
 use mathlib.Core.Path.{_≡_}
 use mathlib.Core.List.{List}
 use denote.Ref.{RefT}
 use Rattle.mark.proofs.OneAnswer.{one-answer}
-use Rattle.turn.specs.declared.Worker.{Worker}
-use Rattle.turn.specs.declared.Turned.{Turned}
-use Rattle.turn.proofs.OneOutcome.{one-outcome}
 use Rattle.engine.specs.declared.Floor.{Floor}
-use Rattle.engine.specs.declared.Seat.{Seat}
 use Rattle.engine.specs.declared.Counted.{Counted}
-use Rattle.engine.specs.Promises.{TurnDone, Shown, CountDone}
-
--- the board, the record and the answer
-pub turn-determined :
-    (board : List ℕ) (s : Seat) (w : Worker) (one two : List ℕ) (r t : Turned)
-    → TurnDone board s w one r
-    → TurnDone board s w two t
-    → (one ≡ two) × (r ≡ t)
-turn-determined board s w one two r t p q = one-outcome (p .whole) (q .whole)
+use Rattle.engine.specs.Promises.{Shown, CountDone}
 
 -- the words that are shown, and where they stand
 pub show-determined :

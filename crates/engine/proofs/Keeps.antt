@@ -11,11 +11,10 @@ use lib.ListN.{length, getD}
 use borrow.Author.Tests.{eqb-true, leb-false}
 use Rattle.mark.proofs.Choices.{by-cases, passes}
 use Rattle.turn.specs.declared.Worker.{Worker}
-use Rattle.turn.specs.declared.Turned.{Turned}
 use Rattle.turn.specs.Worker.{broken}
 use Rattle.turn.specs.Bucket.{brokenBucket}
 use Rattle.turn.specs.Places.{rows, stays, turn}
-use Rattle.turn.specs.Turn.{After, after, refusing, doing}
+use Rattle.turn.specs.Turn.{Turned, After, after, refusing, doing}
 use Rattle.turn.proofs.Sound.{Accepted, accepted, accepted-works, ready, whole-not-broken}
 use Rattle.turn.proofs.Works.{works-within, From, among}
 use Rattle.turn.proofs.Cells.{cellOf, touched, turn-long, turn-one-cell}

@@ -1,4 +1,4 @@
--- The promises of a turn and of a count, from their equations: the number that the answer tells is the tests' own. Assumes nothing.
+-- A turn's answer, and the promise of a count, from their equations: the number that the answer tells is the tests' own. Assumes nothing.
 use Prim.Native.Nat.{ℕ}
 use mathlib.Core.Path.{_≡_, refl, sym, ap, _∙_}
 use mathlib.Core.List.{List}
@@ -6,15 +6,14 @@ use lib.Dec.{eqb}
 use borrow.Author.Tests.{eqb-true}
 use Rattle.mark.proofs.Choices.{by-cases}
 use Rattle.turn.specs.declared.Worker.{Worker}
-use Rattle.turn.specs.declared.Turned.{Turned}
-use Rattle.turn.specs.Turn.{after, numberOf}
+use Rattle.turn.specs.Turn.{Turned, after, numberOf}
 use Rattle.turn.proofs.Numbers.{numberIn, number-told}
 use Rattle.engine.specs.declared.Floor.{Floor}
 use Rattle.engine.specs.declared.Seat.{Seat}
 use Rattle.engine.specs.declared.Counted.{Counted}
 use Rattle.engine.specs.Refusals.{turnNumber, countNumber}
 use Rattle.engine.specs.Calls.{turned, turnCall, countCall, countedNumber}
-use Rattle.engine.specs.Promises.{TurnDone, CountDone}
+use Rattle.engine.specs.Promises.{CountDone}
 
 -- the number that a turn's answer tells
 pub turn-number :
@@ -23,7 +22,11 @@ pub turn-number :
 unfolding turnCall turned
 turn-number board s w = number-told (turnNumber (s .floor) board (s .listed) (s .worker) w) _ board w refl
 
--- a turn
+-- a turn with its answer, and the number that the answer tells
+pub record TurnDone (board : List ℕ) (s : Seat) (w : Worker) (later : List ℕ) (r : Turned) : Type 0 where
+  pub whole : after later r ≡ turnCall board s w
+  pub number : numberOf (r .answer) ≡ turnNumber (s .floor) board (s .listed) (s .worker) w
+
 pub turn-done :
     (board : List ℕ) (s : Seat) (w : Worker) (later : List ℕ) (r : Turned)
     → after later r ≡ turnCall board s w

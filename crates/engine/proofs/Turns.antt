@@ -7,8 +7,7 @@ use lib.Dec.{eqb}
 use lib.ListN.{take, drop}
 use Rattle.turn.specs.declared.Worker.{Worker}
 use Rattle.turn.specs.declared.Tried.{Tried}
-use Rattle.turn.specs.declared.Turned.{Turned}
-use Rattle.turn.specs.Turn.{After, after, refusing, refused, done, tryTurn, turnRefusal, answered}
+use Rattle.turn.specs.Turn.{Turned, After, after, refusing, refused, done, tryTurn, turnRefusal, answered}
 use Rattle.turn.specs.Places.{Step, turn}
 use Rattle.engine.specs.declared.Floor.{Floor}
 use Rattle.engine.specs.Board.{bucketOf, bucketAt, withBucket}

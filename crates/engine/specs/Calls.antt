@@ -9,13 +9,10 @@ use Rattle.turn.specs.declared.Worker.{Worker}
 use Rattle.turn.specs.declared.Action.{Action}
 use Rattle.turn.specs.declared.Action.the-variants.{Read, Store, Won, Lost}
 use Rattle.turn.specs.declared.Report.{Report}
-use Rattle.turn.specs.declared.Answer.{Answer}
-use Rattle.turn.specs.declared.Answer.the-variants.{Refused, Done}
-use Rattle.turn.specs.declared.Turned.{Turned}
 use Rattle.turn.specs.Worker.{idle, lookFor, insertOf, removeOf}
 use Rattle.turn.specs.Places.{Step, turn}
 use Rattle.turn.specs.declared.Tried.{Tried}
-use Rattle.turn.specs.Turn.{After, after, refusing, doing, refused, done}
+use Rattle.turn.specs.Turn.{Answer, Refused, Done, Turned, After, after, refusing, doing, refused, done}
 use Rattle.engine.specs.declared.Floor.{Floor}
 use Rattle.engine.specs.declared.Plan.{Plan}
 use Rattle.engine.specs.declared.Bid.{Bid}
@@ -57,13 +54,13 @@ layCall board f listed p =
 -- ---- start
 
 -- a start with this number of refusal, or 0: where it is accepted the record becomes `new` and the floor `g`
-abbrev pub started : ℕ → Floor → Worker → Worker → Floor → Started
-started number f w new g =
+abbrev pub startMade : ℕ → Floor → Worker → Worker → Floor → Started
+startMade number f w new g =
     cond (eqb number 0) (record { worker = new; floor = g; refusal = 0 }) (record { worker = w; floor = f; refusal = number })
 
 -- a start, late if its ticket is spent
 unfoldable pub startCall : List ℕ → Seat → Worker → Bool → Worker → Floor → Started
-startCall board s w late new g = started (startNumber (s .floor) board (s .listed) (s .worker) w late) (s .floor) w new g
+startCall board s w late new g = startMade (startNumber (s .floor) board (s .listed) (s .worker) w late) (s .floor) w new g
 
 -- "acceptance makes it the last ticket"
 abbrev pub spending : Floor → ℕ → Floor

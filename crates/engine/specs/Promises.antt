@@ -3,19 +3,10 @@ use Prim.Native.Nat.{ℕ}
 use mathlib.Core.Path.{_≡_}
 use mathlib.Core.List.{List}
 use denote.Ref.{RefT}
-use Rattle.turn.specs.declared.Worker.{Worker}
-use Rattle.turn.specs.declared.Turned.{Turned}
-use Rattle.turn.specs.Turn.{after, numberOf}
 use Rattle.engine.specs.declared.Floor.{Floor}
-use Rattle.engine.specs.declared.Seat.{Seat}
 use Rattle.engine.specs.declared.Counted.{Counted}
-use Rattle.engine.specs.Refusals.{turnNumber, countNumber}
-use Rattle.engine.specs.Calls.{turnCall, showCall, showStart, wordsOn, countCall, countedNumber}
-
--- a turn: the board before and after, and what is handed back
-pub record TurnDone (board : List ℕ) (s : Seat) (w : Worker) (later : List ℕ) (r : Turned) : Type 0 where
-  pub whole : after later r ≡ turnCall board s w
-  pub number : numberOf (r .answer) ≡ turnNumber (s .floor) board (s .listed) (s .worker) w
+use Rattle.engine.specs.Refusals.{countNumber}
+use Rattle.engine.specs.Calls.{showCall, showStart, wordsOn, countCall, countedNumber}
 
 -- a show: the lent board, and the part of it that is handed back; both are references, with what they point at and where
 pub record Shown (board : RefT (List ℕ)) (f : Floor) (lot : ℕ) (part : RefT (List ℕ)) : Type 0 where

@@ -1,12 +1,11 @@
-// The calls of the desk on a lent board, with the records by value.
+// The calls of the desk on a lent board, with one record by value.
 ghost use mathlib.Core.Path.{_≡_};
 ghost use mathlib.Core.Bool.{cond};
 ghost use Rattle.turn.specs.Turn.{after};
 ghost use Rattle.engine.specs.Refusals.{recordNumber, startRefusal, runRefusal, showNumber};
-ghost use Rattle.engine.specs.Calls.{blank, layCall, started, lookCall, insertCall, removeCall, tryCall, showStart};
-ghost use Rattle.engine.specs.Promises.{TurnDone, Shown, CountDone};
+ghost use Rattle.engine.specs.Calls.{blank, layCall, startMade, lookCall, insertCall, removeCall, tryCall, showStart};
+ghost use Rattle.engine.specs.Promises.{Shown, CountDone};
 use turn::Tried;
-use turn::Turned;
 use turn::Worker;
 use turn::record;
 use turn::refusal;
@@ -148,7 +147,7 @@ pub fn start_remove(board: &[u64], seat: Seat, w: Worker, lot: u64) -> Started
     start(refusal, floor, w, record::remove_of(lot), floor)
 }
 
-// By the lengths of board and list alone, and on its own: what is left of a start is small enough to stand where it is called.
+// On its own, and of board and list by their lengths: what is left of a start is small enough to be built into its callers.
 fn start_refusal(
     floor: Floor,
     words: usize,
@@ -192,7 +191,7 @@ fn ticket_refusal(late: bool) -> u8
 
 // A start with this number of refusal, or 0: the record becomes `new` and the floor `after`, or both stay.
 fn start(refusal: u8, floor: Floor, w: Worker, new: Worker, after: Floor) -> Started
-    ensures { λ r. ⌜ r ≡ started refusal floor w new after ⌝ }
+    ensures { λ r. ⌜ r ≡ startMade refusal floor w new after ⌝ }
 {
     if refusal == 0 {
         return Started {
@@ -220,13 +219,6 @@ pub fn try_turn(board: &mut [u64], seat: Seat, w: Worker) -> Tried
         return turn::refused(refusal::NO_WORKER, w);
     }
     take::turn(board, floor, w)
-}
-
-// The same, answered by an enum.
-pub fn turn(board: &mut [u64], seat: Seat, w: Worker) -> Turned
-    ensures { λ r. ⌜ TurnDone (now (board .entry)) seat w (now (board .exit)) r ⌝ }
-{
-    turn::answered(try_turn(board, seat, w))
 }
 
 // The number that refuses a run as a whole, or 0: of a board of so many words, a list of so many records, and so many turns.

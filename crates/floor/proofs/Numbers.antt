@@ -5,12 +5,9 @@ use mathlib.Core.Path.{_≡_, refl, ap, _∙_}
 use mathlib.Core.List.{List}
 use lib.ListN.{length, set}
 use Rattle.turn.specs.declared.Worker.{Worker}
-use Rattle.turn.specs.declared.Answer.{Answer}
-use Rattle.turn.specs.declared.Answer.the-variants.{Refused, Done}
-use Rattle.turn.specs.declared.Turned.{Turned}
 use Rattle.turn.specs.declared.Said.{Said}
 use Rattle.turn.specs.declared.Tried.{Tried}
-use Rattle.turn.specs.Turn.{After, after, numberOf, answerOf}
+use Rattle.turn.specs.Turn.{Answer, Refused, Done, Turned, After, after, numberOf, answerOf}
 use Rattle.engine.specs.declared.Floor.{Floor}
 use Rattle.engine.specs.declared.Counted.{Counted}
 use Rattle.engine.specs.declared.Counted.the-variants.{Refusal, Lots}

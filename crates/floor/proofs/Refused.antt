@@ -7,8 +7,7 @@ use mathlib.Core.List.{List}
 use lib.ListN.{length}
 use lib.Seq.{set-getD}
 use Rattle.turn.specs.declared.Worker.{Worker}
-use Rattle.turn.specs.declared.Answer.the-variants.{Refused}
-use Rattle.turn.specs.Turn.{after}
+use Rattle.turn.specs.Turn.{Refused, after}
 use Rattle.engine.specs.declared.Floor.{Floor}
 use Rattle.engine.specs.Refusals.{startNumber, turnNumber}
 use Rattle.engine.specs.Calls.{blank, recordIn, seatIn, startCall}

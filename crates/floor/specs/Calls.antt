@@ -1,5 +1,5 @@
 -- The calls that concern one record of the lent list: what they leave on the board and in the list, and what they answer. An opening
--- and a run are the engine's openCall and runCall, with the list in the array's place and its length.
+-- and a run are the engine's openCall and runCall on the list.
 use Prim.Native.Nat.{ℕ}
 use mathlib.Core.List.{List}
 use lib.ListN.{set}

@@ -5,8 +5,7 @@ use Rattle.turn.specs.declared.Action.{Action}
 use Rattle.turn.specs.declared.Action.the-variants.{Read, Store, Won, Lost}
 use Rattle.turn.specs.declared.Progress.{Progress}
 use Rattle.turn.specs.declared.Progress.the-variants.{GoesOn, Ended}
-use Rattle.turn.specs.declared.Answer.{Answer}
-use Rattle.turn.specs.declared.Answer.the-variants.{Refused, Done}
+use Rattle.turn.specs.Turn.{Answer, Refused, Done}
 use Rattle.engine.specs.declared.Started.{Started}
 use Rattle.engine.specs.declared.Counted.{Counted}
 use Rattle.engine.specs.declared.Counted.the-variants.{Refusal, Lots}

@@ -1,5 +1,5 @@
-// The desk's library: every call over a lent board and one lent list of worker records. Each function that holds the list takes out
-// what the call concerns, makes one call of the engine, and puts it back. C calls them under these names: include/desk.h.
+// The desk's library: every call over a lent board and one lent list of worker records. What holds the list is thin: it takes out the
+// record that the call concerns, lets the engine go on with it, and puts it back. C calls them under these names: include/desk.h.
 ghost use mathlib.Core.Path.{_≡_};
 ghost use lib.ListN.{length};
 ghost use Rattle.turn.specs.Turn.{after};

@@ -1,7 +1,6 @@
 // What the engine's calls hand back, as it goes out to C.
 ghost use mathlib.Core.Path.{_≡_};
-ghost use Rattle.turn.specs.declared.Answer.the-variants.{Refused, Done};
-ghost use Rattle.turn.specs.Turn.{answerOf};
+ghost use Rattle.turn.specs.Turn.{Refused, Done, answerOf};
 ghost use Rattle.floor.specs.Told.{actionNumber, isEnded, endedWith, turnTold, runTold, countTold};
 use crate::CountOutcome;
 use crate::RunOutcome;

@@ -8,11 +8,10 @@ use lib.ListN.{length}
 use borrow.Author.Tests.{eqb-true}
 use Rattle.mark.proofs.Choices.{by-cases, passes}
 use Rattle.turn.specs.declared.Worker.{Worker}
-use Rattle.turn.specs.declared.Turned.{Turned}
 use Rattle.turn.specs.Bucket.{cell, markCell}
 use Rattle.turn.specs.Effects.{effectOn, effectOf}
 use Rattle.turn.specs.Places.{Step, turn}
-use Rattle.turn.specs.Turn.{After, after, refusing}
+use Rattle.turn.specs.Turn.{Turned, After, after, refusing}
 use Rattle.turn.proofs.Sound.{Accepted}
 use Rattle.turn.proofs.Cells.{turn-long}
 use Rattle.turn.proofs.Effects.{turn-moves, turn-went, turn-effect, turn-aims}

@@ -10,9 +10,7 @@ use borrow.Author.Tests.{eqb-true}
 use Rattle.mark.proofs.Choices.{by-cases, passes}
 use Rattle.turn.specs.declared.Worker.{Worker}
 use Rattle.turn.specs.declared.Report.{Report}
-use Rattle.turn.specs.declared.Answer.the-variants.{Done}
-use Rattle.turn.specs.declared.Turned.{Turned}
-use Rattle.turn.specs.Turn.{After}
+use Rattle.turn.specs.Turn.{Done, Turned, After}
 use Rattle.turn.specs.Turn as Turn
 use Rattle.engine.specs.declared.Totals.{Totals}
 use Rattle.engine.specs.Refusals.{wrongFloor, wrongSizes, turnNumber, runNumber}

@@ -10,10 +10,7 @@ use borrow.Author.Tests.{le-ltb}
 use Rattle.mark.proofs.Choices.{by-cases}
 use Rattle.turn.specs.declared.Worker.{Worker}
 use Rattle.turn.specs.declared.Report.{Report}
-use Rattle.turn.specs.declared.Answer.{Answer}
-use Rattle.turn.specs.declared.Answer.the-variants.{Refused, Done}
-use Rattle.turn.specs.declared.Turned.{Turned}
-use Rattle.turn.specs.Turn.{After, after}
+use Rattle.turn.specs.Turn.{Answer, Refused, Done, Turned, After, after}
 use Rattle.engine.specs.declared.Floor.{Floor}
 use Rattle.engine.specs.declared.Totals.{Totals}
 use Rattle.engine.specs.Refusals.{wrongSizes, eachNumber, runNumber}

@@ -10,9 +10,7 @@ use Rattle.mark.proofs.Choices.{by-cases}
 use Rattle.turn.specs.declared.Worker.{Worker}
 use Rattle.turn.specs.declared.Progress.{Progress}
 use Rattle.turn.specs.declared.Progress.the-variants.{GoesOn, Ended}
-use Rattle.turn.specs.declared.Answer.{Answer}
-use Rattle.turn.specs.declared.Answer.the-variants.{Refused, Done}
-use Rattle.turn.specs.Turn.{After}
+use Rattle.turn.specs.Turn.{Answer, Refused, Done, After}
 use Rattle.engine.specs.declared.Totals.{Totals}
 use Rattle.engine.specs.Calls.{turnCall}
 use Rattle.sheet.specs.declared.Field.{Field}

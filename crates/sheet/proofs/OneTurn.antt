@@ -12,22 +12,18 @@ use Rattle.turn.specs.declared.Worker.{Worker}
 use Rattle.turn.specs.declared.Progress.{Progress}
 use Rattle.turn.specs.declared.Progress.the-variants.{GoesOn, Ended}
 use Rattle.turn.specs.declared.Report.{Report}
-use Rattle.turn.specs.declared.Answer.{Answer}
-use Rattle.turn.specs.declared.Answer.the-variants.{Refused, Done}
-use Rattle.turn.specs.declared.Turned.{Turned}
 use Rattle.turn.specs.declared.Tried.{Tried}
 use Rattle.turn.specs.Worker.{idle, isIdle}
 use Rattle.turn.specs.Places.{turn}
-use Rattle.turn.specs.Turn.{After, after, numberOf, doing, answerOf, answered}
+use Rattle.turn.specs.Turn.{Answer, Refused, Done, Turned, After, after, numberOf, doing, answerOf, answered}
 use Rattle.turn.proofs.Kept.{Idles, turn-idles, is-idle}
 use Rattle.engine.specs.declared.Floor.{Floor}
 use Rattle.engine.specs.declared.Seat.{Seat}
 use Rattle.engine.specs.declared.Totals.{Totals}
 use Rattle.engine.specs.Refusals.{bucketFor, turnNumber}
 use Rattle.engine.specs.Calls.{blank, recordIn, tallied, turnDone, turned, tryCall, turnCall}
-use Rattle.engine.specs.Promises.{TurnDone}
 use Rattle.engine.proofs.Keeps.{turn-accepted}
-use Rattle.engine.proofs.Numbers.{turn-done}
+use Rattle.engine.proofs.Numbers.{TurnDone, turn-done}
 use Rattle.engine.proofs.Turns.{answering, tried-is-turned}
 use Rattle.sheet.specs.Play.{deskOf, seatAt, endedLine, turnListed, turnAtDesk}
 use Rattle.sheet.specs.Written.{Wrote}

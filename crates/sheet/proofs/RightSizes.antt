@@ -10,9 +10,7 @@ use lib.ListN.{length, drop, length-take, length-drop}
 use borrow.Author.Tests.{eqb-true, eqb-false}
 use Rattle.mark.proofs.Choices.{by-cases, passes}
 use Rattle.turn.specs.declared.Worker.{Worker}
-use Rattle.turn.specs.declared.Answer.{Answer}
-use Rattle.turn.specs.declared.Answer.the-variants.{Refused, Done}
-use Rattle.turn.specs.Turn.{After}
+use Rattle.turn.specs.Turn.{Answer, Refused, Done, After}
 use Rattle.engine.specs.declared.Floor.{Floor}
 use Rattle.engine.specs.declared.Plan.{Plan}
 use Rattle.engine.specs.declared.Seat.{Seat}

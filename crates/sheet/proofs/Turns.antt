@@ -7,9 +7,7 @@ use native.Mathlib.Omega.{arith}
 use lib.ListN.{length, getD, take, drop}
 use lib.Seq.{drop-cons}
 use Rattle.turn.specs.declared.Worker.{Worker}
-use Rattle.turn.specs.declared.Answer.{Answer}
-use Rattle.turn.specs.declared.Answer.the-variants.{Refused, Done}
-use Rattle.turn.specs.Turn.{After}
+use Rattle.turn.specs.Turn.{Answer, Refused, Done, After}
 use Rattle.engine.specs.Calls.{turnCall}
 use Rattle.engine.specs.Room.{Few}
 use Rattle.engine.proofs.Few.{few-le, few-more}

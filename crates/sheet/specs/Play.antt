@@ -8,11 +8,8 @@ use lib.Dec.{eqb}
 use Rattle.turn.specs.declared.Worker.{Worker}
 use Rattle.turn.specs.declared.Progress.{Progress}
 use Rattle.turn.specs.declared.Progress.the-variants.{GoesOn, Ended}
-use Rattle.turn.specs.declared.Answer.{Answer}
-use Rattle.turn.specs.declared.Answer.the-variants.{Refused, Done}
-use Rattle.turn.specs.declared.Turned.{Turned}
 use Rattle.turn.specs.Worker.{idle}
-use Rattle.turn.specs.Turn.{After, after}
+use Rattle.turn.specs.Turn.{Answer, Refused, Done, Turned, After, after}
 use Rattle.engine.specs.declared.Floor.{Floor}
 use Rattle.engine.specs.declared.Plan.{Plan}
 use Rattle.engine.specs.declared.Seat.{Seat}

@@ -7,8 +7,7 @@ use lib.Dec.{eqb}
 use borrow.Author.Tests.{eqb-true}
 use Rattle.mark.proofs.Choices.{by-cases}
 use Rattle.turn.specs.declared.Worker.{Worker}
-use Rattle.turn.specs.declared.Turned.{Turned}
-use Rattle.turn.specs.Turn.{After, after, numberOf, refusing}
+use Rattle.turn.specs.Turn.{Turned, After, after, numberOf, refusing}
 
 -- the number in what a turn left
 abbrev pub numberIn : After Turned → ℕ

@@ -10,9 +10,6 @@ use Rattle.turn.specs.declared.Report.{Report}
 use Rattle.turn.specs.declared.Stepped.{Stepped}
 use Rattle.turn.specs.declared.Said.{Said}
 use Rattle.turn.specs.declared.Tried.{Tried}
-use Rattle.turn.specs.declared.Answer.{Answer}
-use Rattle.turn.specs.declared.Answer.the-variants.{Refused, Done}
-use Rattle.turn.specs.declared.Turned.{Turned}
 use Rattle.turn.specs.Worker.{isIdle, broken}
 use Rattle.turn.specs.Bucket.{brokenBucket}
 use Rattle.turn.specs.Places.{Step, turn}
@@ -24,6 +21,16 @@ bucketRefusal b = cond (brokenBucket b) 7 0
 -- Order of a turn: ".. 3, 6, 7": a broken record, an idle worker, a broken bucket; 0 where it is none of them
 unfoldable pub turnRefusal : List ℕ → Worker → ℕ
 turnRefusal b w = cond (broken w) 3 (cond (isIdle w) 6 (bucketRefusal b))
+
+-- a turn's answer: refused with its number alone, or done with its report
+pub data Answer : Type 0 where
+  Refused : ℕ → Answer
+  Done : Report → Answer
+
+-- what a turn hands back: the record, and the answer
+pub record Turned : Type 0 where
+  pub worker : Worker
+  pub answer : Answer
 
 -- 01's number for each case of an answer: a refusal's own, and 0 for a turn that is done
 abbrev pub numberOf : Answer → ℕ
@@ -47,7 +54,7 @@ refusing number w = record { worker = w; answer = Refused number }
 abbrev pub doing : Step → Turned
 doing s = record { worker = s .stepped .worker; answer = Done (s .stepped .report) }
 
--- ---- the same without an enum: a number beside the report
+-- ---- as the code has it: a number beside the report
 
 -- what stands for the report of a turn that was refused
 abbrev pub unreported : Report

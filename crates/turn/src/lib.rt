@@ -1,6 +1,6 @@
 // One worker and one bucket: the worker's record, the eight words of its lot's bucket, and what one turn does to them.
 ghost use mathlib.Core.Path.{_≡_};
-ghost use Rattle.turn.specs.Turn.{bucketRefusal, turnRefusal, after, refused, done, tryTurn, answered};
+ghost use Rattle.turn.specs.Turn.{bucketRefusal, turnRefusal, after, refused, done, tryTurn};
 
 pub mod refusal; // the numbers
 pub mod record; // idle, started and broken records
@@ -56,16 +56,6 @@ pub struct Said {
 pub struct Tried {
     pub worker: Worker,
     pub said: Said,
-}
-
-pub enum Answer {
-    Refused(u8),
-    Done(Report),
-}
-
-pub struct Turned {
-    pub worker: Worker,
-    pub answer: Answer,
 }
 
 // The number of refusal, or 0. A sound record is not idle, so the test that nearly every turn passes comes first.
@@ -132,23 +122,4 @@ pub fn try_turn(lent: &mut [u64], w: Worker) -> Tried
         return done(place::step(lent, w), w.place);
     }
     refused(refusal, w)
-}
-
-// What a turn says, as an answer: refused with its number alone, or done with its report.
-pub fn answered(tried: Tried) -> Turned
-    ensures { λ r. ⌜ r ≡ answered tried ⌝ }
-{
-    let worker = tried.worker;
-    let said = tried.said;
-    let report = said.report;
-    if said.refusal == 0 {
-        return Turned {
-            worker,
-            answer: Answer::Done(report),
-        };
-    }
-    Turned {
-        worker,
-        answer: Answer::Refused(said.refusal),
-    }
 }

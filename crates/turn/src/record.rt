@@ -175,7 +175,7 @@ fn remove_fits(place: u8, ticket: u32, held: u8, word: u64) -> bool
     mark::is_well_formed(word)
 }
 
-// Whether a record is a busy one that a start and turns could have left: by its kind, so that each field is tested once.
+// Whether the fields of a busy record go together: by its kind, so that each is tested once.
 pub fn is_sound(w: Worker) -> bool
     ensures { λ r. ⌜ r ≡ sound w ⌝ }
 {
