@@ -9,6 +9,9 @@
 #include "histories.h"
 #include "libc.h"
 #include "operations.h"
+#include <stdio.h>
+#include <stdlib.h>
+#include <string.h>
 
 enum { DEFAULT_SEED = 1, SIZES = 3, ROUNDS = 40, MONOTONIC = 1, LONG_ENOUGH = 100000 };
 

@@ -1,7 +1,7 @@
 #include "compare.h"
-#include "libc.h"
-
-void exit(int);
+#include <stdio.h>
+#include <stdlib.h>
+#include <string.h>
 
 static uint64_t the_seed, the_history;
 static unsigned long compared, histories;

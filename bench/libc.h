@@ -1,15 +1,9 @@
-/* What these programs ask of the C library: the kit's compiler comes without its headers. */
+/* What these programs ask of the C library beyond the headers of tests/c/freestanding: the kit's compiler comes without any. */
 #ifndef LIBC_H
 #define LIBC_H
 
 #include <stddef.h>
 
-int printf(const char *, ...);
-int fflush(void *);
-int strcmp(const char *, const char *);
-int memcmp(const void *, const void *, size_t);
-void *memcpy(void *, const void *, size_t);
-unsigned long strtoul(const char *, char **, int);
 long read(int, void *, size_t);
 long write(int, const void *, size_t);
 

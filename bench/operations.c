@@ -1,5 +1,5 @@
 #include "operations.h"
-#include "libc.h"
+#include <string.h>
 
 /* ---- halls */
 

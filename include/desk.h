@@ -5,7 +5,8 @@
    call has ended. README.md, under "From C", has a whole program and how it is built.
 
    What is asked of the caller: a pointer has as many words, records or turns behind it as the number after it says, and what a function
-   may write to overlaps nothing else that it is given. All else may be anything. Every function takes any words, any records and any
+   may write to overlaps nothing else that it is given. Where that number is 0 the pointer may be NULL: an empty run is
+   desk_run(board, words, records, listed, floor, NULL, 0). All else may be anything. Every function takes any words, any records and any
    numbers, and ends; what does not fit it refuses by a number, and then nothing has changed.
 
    Threads: the library keeps nothing between two calls and asks the system for nothing. So each thread can have a board, a list and a
@@ -28,27 +29,38 @@
 
 /* ---- numbers */
 
-/* How many there can be: of workers and buckets at least one, and no more than this. */
+/* How many there can be, how many there are, and where in a bucket they stand. All in one enum, since C++20 warns where constants of two
+   are multiplied or added: the largest board has DESK_BUCKET_WORDS * DESK_MOST_BUCKETS words. */
 enum {
-    DESK_MOST_WORKERS = 64,
+    DESK_MOST_WORKERS = 64,  /* of workers and buckets there is at least one */
     DESK_MOST_BUCKETS = 256,
-    DESK_MOST_TURNS = 65535 /* of one run; none at all is a run too */
+    DESK_MOST_TURNS = 65535, /* of one run; none at all is a run too */
+    DESK_BUCKET_WORDS = 8,   /* see "the board" below, also for the places in a bucket */
+    DESK_SLOTS = 3,          /* of a bucket */
+    DESK_NO_SLOT = 3,        /* the number that stands where there is no slot, as in `held` */
+    DESK_AT_MARK = 0,
+    DESK_AT_KEYS = 1,
+    DESK_AT_VALUES = 4,
+    DESK_AT_SPARE = 7
 };
 
 /* What a call answers: done, or the number by which it is refused. Of two reasons the one that the call looks at first is told: the
-   sizes, then a run's length, the worker's number, its record, whether it is busy, the ticket, the bucket. 8 is for a sheet that cannot be
-   read, which only the program at the rostrum does. */
+   sizes, then a run's length, the worker's number, its record, whether it is busy, the ticket, the bucket. */
 enum {
     DESK_DONE = 0,
     DESK_WRONG_SIZES = 1,   /* too few or too many workers or buckets, the board not eight words for each bucket, or the list not one
                                record for each worker (which a show and a count are not given) */
     DESK_NO_WORKER = 2,     /* workers are counted from 0, and the number is past the last */
-    DESK_BROKEN_RECORD = 3, /* the worker's record is not one that a call can leave */
+    DESK_BROKEN_RECORD = 3, /* in the worker's record kind, place, ticket, held, slot and word do not go together: there is no such kind;
+                               it is idle, and not desk_idle_record() in every field; its kind of call never comes to that place; an
+                               insert has no ticket, or another call has one; a slot is held where none can be, or none where one must
+                               be; the slot is past the last; a look has a word, or another call one that is no mark word */
     DESK_BUSY_WORKER = 4,   /* a start for a worker whose last call has not ended */
     DESK_SPENT_TICKET = 5,  /* an insert's ticket has to be greater than all before it; so 0 never is a ticket */
     DESK_IDLE_WORKER = 6,   /* a turn for a worker that has no call */
-    DESK_BROKEN_BUCKET = 7, /* the lot's bucket is not one that a call can leave: a mark over 2, something above the marks, or a spare
-                               word that is not 0. For a count it can be any bucket */
+    DESK_BROKEN_BUCKET = 7, /* the lot's bucket has a mark over 2, something above the marks, or a spare word that is not 0. For a
+                               count it can be any bucket */
+    DESK_MALFORMED = 8,     /* a sheet that cannot be read: the number is the rostrum's, and no call here gives it */
     DESK_TOO_LONG = 9       /* a run of more than DESK_MOST_TURNS */
 };
 
@@ -80,17 +92,9 @@ enum {
      32 to 39   are the mark of slot 0
      40 to 47   are the mark of slot 1
      48 to 55   are the mark of slot 2
-     56 to 63   are 0 */
-enum {
-    DESK_BUCKET_WORDS = 8,
-    DESK_SLOTS = 3,
-    DESK_NO_SLOT = 3, /* the number that stands where there is no slot, as in `held` */
-    DESK_AT_MARK = 0,
-    DESK_AT_KEYS = 1,
-    DESK_AT_VALUES = 4,
-    DESK_AT_SPARE = 7
-};
+     56 to 63   are 0
 
+   A mark is one of these. */
 enum {
     DESK_MARK_EMPTY = 0,
     DESK_MARK_VALID = 1,    /* the slot's lot stands on the slot's ticket */

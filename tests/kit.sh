@@ -56,14 +56,23 @@ archive_of() {
   printf '%s\n' "$archive"
 }
 
-# compiles one file, C or by its name C++, for x86-64, with stand-ins for the headers of the C library; the words after the object's name
-# go to the compiler last, so that they decide
+# whether a file is C++, by its name
+is_cpp() {
+  case $1 in
+  *.cc | *.cpp | *.cxx) ;;
+  *) return 1 ;;
+  esac
+}
+
+# Compiles one file, C or C++, for x86-64, with stand-ins for the headers of the C library; the words after the object's name go to the
+# compiler last, so that they decide. There is no C++ library in the kit, so C++ is compiled to ask for none of it.
 compile() {
   local source=$1 object=$2 language=(-std=c11)
   shift 2
-  case $source in
-  *.cc | *.cpp) language=(-x c++ -std=c++17 -fno-exceptions -fno-rtti) ;;
-  esac
+  if is_cpp "$source"; then
+    # the lock of a static object that is made where it is first met would be the C++ library's
+    language=(-x c++ -std=c++17 -fno-exceptions -fno-rtti -fno-threadsafe-statics)
+  fi
   "$tools/clang" --target=x86_64-unknown-linux-gnu "${language[@]}" -Wall -Wextra -O2 -fPIE -nostdlibinc \
     -isystem "$here/tests/c/freestanding" -I"$here/include" "$@" -c "$source" -o "$object"
 }

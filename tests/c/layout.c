@@ -1,6 +1,6 @@
 /* What desk.h says, as numbers: each struct's size and where each field of it stands, as the library has them, and what each constant
-   stands for. It is compiled as C99, C11, C23 and C++17, with desk.h before anything else; where a line is wrong it does not compile.
-   Whoever has to change a number of it raises DESK_VERSION. */
+   stands for. It is compiled as C99, C11, C23, C++17 and C++20, with desk.h before anything else; where a line is wrong it does not
+   compile. Whoever has to change a number of it raises DESK_VERSION. */
 #include "desk.h"
 
 #define HOLDS(name, test) typedef char name[(test) ? 1 : -1]
@@ -64,6 +64,7 @@ IS(DESK_BUSY_WORKER, 4);
 IS(DESK_SPENT_TICKET, 5);
 IS(DESK_IDLE_WORKER, 6);
 IS(DESK_BROKEN_BUCKET, 7);
+IS(DESK_MALFORMED, 8);
 IS(DESK_TOO_LONG, 9);
 IS(DESK_IDLE, 0);
 IS(DESK_LOOK, 1);
@@ -84,3 +85,8 @@ IS(DESK_AT_SPARE, 7);
 IS(DESK_MARK_EMPTY, 0);
 IS(DESK_MARK_VALID, 1);
 IS(DESK_MARK_INSERTING, 2);
+
+/* what one reckons with can be reckoned with, also in C++20, which warns of constants of two enums */
+HOLDS(the_largest_board, DESK_BUCKET_WORDS * DESK_MOST_BUCKETS == 2048);
+HOLDS(the_most_lots, DESK_SLOTS * DESK_MOST_BUCKETS == 768);
+HOLDS(values_come_after_keys, DESK_AT_KEYS + DESK_SLOTS == DESK_AT_VALUES);

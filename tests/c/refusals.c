@@ -169,6 +169,25 @@ static void test_stops(void) {
     stops(DESK_BROKEN_BUCKET, 2);
 }
 
+static desk_outcome open_nothing(uint64_t *board, size_t words, desk_worker *records, size_t listed) {
+    desk_plan plan = {.workers = listed, .buckets = words / DESK_BUCKET_WORDS, .version = 0};
+    return desk_open_floor(board, words, records, listed, one.floor, plan);
+}
+
+/* no pointer where there is nothing behind it: an empty run is done, and no board and no list are sizes that do not fit */
+static void test_nothing(void) {
+    desk_floor none = {0};
+    opened(&one, 2, 1, 0);
+    REFUSED(DESK_DONE, refused_run(NULL, 0));
+    REFUSED(DESK_WRONG_SIZES, open_nothing(NULL, 0, one.records, 2).refusal);
+    REFUSED(DESK_WRONG_SIZES, open_nothing(one.board, 8, NULL, 0).refusal);
+    REFUSED(DESK_WRONG_SIZES, open_nothing(NULL, 0, NULL, 0).refusal);
+    CHECK(desk_start_look(NULL, 0, NULL, 0, none, 0, 7).refusal == DESK_WRONG_SIZES);
+    CHECK(desk_turn(NULL, 0, NULL, 0, none, 0).refusal == DESK_WRONG_SIZES);
+    CHECK(desk_run(NULL, 0, NULL, 0, none, NULL, 0).stop == DESK_WRONG_SIZES);
+    CHECK(desk_show_refusal(NULL, 0, none, 7) == DESK_WRONG_SIZES);
+    CHECK(desk_count(NULL, 0, none).refusal == DESK_WRONG_SIZES);
+}
 
 void test_refusals(void) {
     test_sizes();
@@ -177,4 +196,5 @@ void test_refusals(void) {
     test_calls();
     test_buckets();
     test_stops();
+    test_nothing();
 }
