@@ -31,12 +31,12 @@ both-fail false u is = (refl, is)
 
 -- so they do where the list is tested too
 pub right-sizes : (f : Floor) (board : List ℕ) (listed : ℕ) → wrongSizes f board listed ≡ false → Right f board
-unfolding wrongSizes
+unfolding wrongSizes wrongFloor
 right-sizes f board listed is = right f board (both-fail _ _ is .0)
 
 -- and the list has a record for each worker
 pub right-listed : (f : Floor) (board : List ℕ) (listed : ℕ) → wrongSizes f board listed ≡ false → listed ≡ f .workers
-unfolding wrongSizes
+unfolding wrongSizes wrongFloor
 right-listed f board listed is = eqb-true _ _ (not-false _ (both-fail (wrongFloor f board) _ is .1))
 
 -- a show that is not refused

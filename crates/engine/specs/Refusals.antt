@@ -25,7 +25,7 @@ wrongFloor f board = wrongWords f (length board)
 
 -- the same of a board and a list
 unfoldable pub wrongSizes : Floor → List ℕ → ℕ → Bool
-wrongSizes f board listed = wrongFloor f board || not (eqb listed (f .workers))
+wrongSizes f board listed = wrongListed f (length board) listed
 
 -- 2: "worker number is W or more"
 abbrev pub noWorker : Floor → ℕ → Bool
@@ -53,7 +53,7 @@ startRefusal f words listed i w late = cond (wrongListed f words listed) 1 (cond
 
 -- "start 1, 2, 3, 4, 5"
 unfoldable pub startNumber : Floor → List ℕ → ℕ → ℕ → Worker → Bool → ℕ
-startNumber f board listed i w late = cond (wrongSizes f board listed) 1 (cond (noWorker f i) 2 (recordNumber w late))
+startNumber f board listed i w late = startRefusal f (length board) listed i w late
 
 -- a run's "then each turn": 2, 3, 6, 7
 unfoldable pub eachNumber : Floor → List ℕ → ℕ → Worker → ℕ
@@ -73,7 +73,7 @@ runRefusal f words listed count = cond (wrongListed f words listed) 1 (tooLong c
 
 -- "run 1, 9, then each turn"
 unfoldable pub runNumber : Floor → List ℕ → ℕ → List ℕ → ℕ
-runNumber f board listed turns = cond (wrongSizes f board listed) 1 (tooLong (length turns))
+runNumber f board listed turns = runRefusal f (length board) listed (length turns)
 
 -- "show 1, 7"
 unfoldable pub showNumber : Floor → List ℕ → ℕ → ℕ

@@ -16,7 +16,7 @@ use Rattle.turn.specs.declared.Tried.{Tried}
 use Rattle.turn.specs.Turn.{After, after, refused, done}
 use Rattle.turn.specs.Places.{turn}
 use Rattle.engine.specs.declared.Floor.{Floor}
-use Rattle.engine.specs.Refusals.{wrongFloor, wrongSizes, bucketFor, eachNumber, turnNumber, runRefusal, runNumber}
+use Rattle.engine.specs.Refusals.{wrongSizes, bucketFor, eachNumber, turnNumber, runRefusal, runNumber}
 use Rattle.engine.specs.Room.{Few}
 use Rattle.engine.specs.Calls.{Ran, blank, recordIn, turnDone, tried, tryCall, noTurns, standing, runFrom, runCall}
 use Rattle.engine.proofs.Few.{few-more, few-exact}
@@ -53,7 +53,7 @@ module _ (f : Floor) (ts : List ℕ) where
     number = runRefusal f (length first) (length ys) (length ts)
 
     accepted : number ≡ 0 → Going (record { totals = noTurns; at = 0; end = length ts; stop = 0 }) first ys
-    unfolding wrongSizes wrongFloor
+    unfolding wrongSizes
     accepted none =
         let sizes = passes _ 0 _ none in
         record {
@@ -66,7 +66,7 @@ module _ (f : Floor) (ts : List ℕ) where
     begun-either : (t : Bool) → eqb number 0 ≡ t
         → Underway (cond t (record { totals = noTurns; at = 0; end = length ts; stop = 0 })
         (record { totals = noTurns; at = length ts; end = length ts; stop = number })) first ys
-    unfolding runCall runNumber wrongSizes wrongFloor
+    unfolding runCall runNumber
     begun-either true is = record {
       end = refl;
       within = omega arith;
@@ -120,7 +120,7 @@ module _ (f : Floor) (ts : List ℕ) where
 
       after-it : (board′ : List ℕ) (records′ : List Worker) → length board′ ≡ length board → length records′ ≡ length records
           → wrongSizes f board′ (length records′) ≡ false
-      unfolding wrongSizes wrongFloor
+      unfolding wrongSizes
       after-it board′ records′ same₀ same₁ = rw (same₀, same₁) (here .right)
 
       -- what a turn that came out so leaves of the run

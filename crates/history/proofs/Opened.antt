@@ -13,7 +13,7 @@ use Rattle.mark.proofs.Choices.{passes}
 use Rattle.turn.specs.Worker.{idle}
 use Rattle.engine.specs.declared.Plan.{Plan}
 use Rattle.engine.specs.Board.{bucketAt, emptyBucket, openedBoard}
-use Rattle.engine.specs.Refusals.{wrongFloor, wrongSizes, openNumber}
+use Rattle.engine.specs.Refusals.{wrongSizes, openNumber}
 use Rattle.engine.specs.Calls.{planned, openCall, blank, recordIn}
 use Rattle.engine.specs.Room.{Right}
 use Rattle.engine.proofs.Sizes.{right-sizes, right-listed}
@@ -78,7 +78,7 @@ blank-accepted :
     → 1 ≤ p .buckets
     → p .buckets ≤ 256
     → openNumber (planned p) (replicate (8 * p .buckets) 0) (length (replicate (p .workers) blank)) ≡ 0
-unfolding openNumber wrongSizes wrongFloor
+unfolding openNumber wrongSizes
 blank-accepted p some-worker workers some-bucket buckets =
     rw (
       length-replicate {A = ℕ} (8 * p .buckets) 0,

@@ -42,12 +42,12 @@ lent workers accepted =
 
 -- "floor W 2, N 1, version 0"
 unfoldable pub twoWorkers : Opening
-unfolding Refusals.openNumber Refusals.wrongSizes Refusals.wrongFloor
+unfolding Refusals.openNumber Refusals.wrongSizes
 twoWorkers = lent 2 refl
 
 -- "W 3"
 unfoldable pub threeWorkers : Opening
-unfolding Refusals.openNumber Refusals.wrongSizes Refusals.wrongFloor
+unfolding Refusals.openNumber Refusals.wrongSizes
 threeWorkers = lent 3 refl
 
 -- the trace of P6

@@ -13,7 +13,7 @@ use Rattle.turn.specs.declared.Report.{Report}
 use Rattle.turn.specs.Turn.{Done, Turned, After}
 use Rattle.turn.specs.Turn as Turn
 use Rattle.engine.specs.declared.Totals.{Totals}
-use Rattle.engine.specs.Refusals.{wrongFloor, wrongSizes, turnNumber, runNumber}
+use Rattle.engine.specs.Refusals.{wrongSizes, turnNumber, runNumber}
 use Rattle.engine.specs.Calls.{Ran, tallied, noTurns, standing, goOn, turned, turnCall, runFrom, runCall}
 use Rattle.engine.proofs.Stops.{run-turn-is-turn}
 use Rattle.engine.proofs.Keeps.{turn-keeps}
@@ -46,7 +46,7 @@ none-follow s turns t number = record { left = refl; did = refl; totals = refl }
 
 -- a turn keeps the sizes
 still-right : (s : State) (i : ℕ) → RightSizes s → RightSizes (turnedAs s i (turnBy s i))
-unfolding wrongSizes wrongFloor
+unfolding wrongSizes
 still-right s i right = rw (length-set (s .records) i (turnBy s i .handed .worker), turn-keeps (s .board) (seatOf s i) (recordOf s i) .long) right
 
 -- how they come out from a state, with any totals before them
@@ -108,7 +108,7 @@ module _ (s : State) (turns : List ℕ) where
       → Follows s turns noTurns
       (cond t (runFrom (s .floor) turns (standing (s .board) (s .records) noTurns 0)) (standing (s .board) (s .records) noTurns number))
       (cond t (turnEntries s turns) [])
-  unfolding runNumber
+  unfolding runNumber wrongSizes
   either-follows true is = turns-follow s turns (passes _ _ _ (eqb-true _ _ is) .0) noTurns
   either-follows false isnot = none-follow s turns noTurns _
 

@@ -75,7 +75,7 @@ not-refused :
     (f : Floor) (board : List ℕ) (listed i : ℕ) (w : Worker) (late : Bool)
     → startNumber f board listed i w late ≡ 0
     → Startable listed i w late
-unfolding startNumber
+unfolding startNumber wrongSizes
 not-refused f board listed i w late none =
     let sizes = passes (wrongSizes f board listed) 0 _ none in
     let there = passes (noWorker f i) 1 _ (sizes .1) in

@@ -9,7 +9,7 @@ use lib.ListN.{length, replicate, length-replicate}
 use Rattle.turn.specs.Turn.{After, after}
 use Rattle.engine.specs.declared.Floor.{Floor}
 use Rattle.engine.specs.declared.Plan.{Plan}
-use Rattle.engine.specs.Refusals.{wrongFloor, wrongSizes, openNumber}
+use Rattle.engine.specs.Refusals.{wrongSizes, openNumber}
 use Rattle.engine.specs.Calls.{Opened, planned, noTurns, openCall}
 use Rattle.sheet.specs.declared.Field.the-variants.{Opening}
 use Rattle.sheet.specs.declared.Read.{Read}
@@ -26,7 +26,7 @@ same-choice g false a b x y one two = two refl
 
 -- the number of an opening goes by the board's length
 same-number : (f : Floor) (board other : List ℕ) (listed : ℕ) → length board ≡ length other → openNumber f board listed ≡ openNumber f other listed
-unfolding openNumber wrongSizes wrongFloor
+unfolding openNumber wrongSizes
 same-number f board other listed long = rw long
 
 module _ (rest : ℕ → After Desk → Ending) (sheet : List ℕ) where

@@ -107,7 +107,7 @@ run-goes-whole :
     → wrongSizes f board listed ≡ false
     → length ts ≤ 65535
     → runCall board f ws listed ts ≡ runFrom f ts (standing board ws noTurns 0)
-unfolding runCall runNumber
+unfolding runCall runNumber wrongSizes
 run-goes-whole f board ws listed ts right few = rw (right, le-ltb 65535 (length ts) few)
 
 -- where the sizes are right, the turns of a field leave the board and the records of the engine's run of them, add its totals to the

@@ -16,7 +16,7 @@ use Rattle.engine.specs.declared.Plan.{Plan}
 use Rattle.engine.specs.declared.Seat.{Seat}
 use Rattle.engine.specs.declared.Started.{Started}
 use Rattle.engine.specs.Board.{openedBoard}
-use Rattle.engine.specs.Refusals.{wrongFloor, wrongSizes, openNumber, startNumber}
+use Rattle.engine.specs.Refusals.{wrongSizes, openNumber, startNumber}
 use Rattle.engine.specs.Calls.{Opened, planned, openCall, spending, startCall, turnCall}
 use Rattle.engine.proofs.Buckets.{length-opened}
 use Rattle.engine.proofs.Sizes.{right-sizes}
@@ -29,7 +29,7 @@ use Rattle.sheet.proofs.Seats.{asked-is}
 -- a board of the same length has the same sizes
 pub same-sizes :
     (f : Floor) (board later : List ℕ) (listed : ℕ) → length later ≡ length board → wrongSizes f later listed ≡ wrongSizes f board listed
-unfolding wrongSizes wrongFloor
+unfolding wrongSizes
 same-sizes f board later listed long = rw long
 
 -- the sizes are right, with a record for each worker
@@ -71,7 +71,7 @@ module _ (board : List ℕ) (s : Seat) (w : Worker) (right : Sized (s .floor) bo
       (λ done. same) (λ isnot. right)
 
   spending-sized : (ticket : ℕ) → Sized (spending (s .floor) ticket) board
-  unfolding wrongSizes wrongFloor
+  unfolding wrongSizes
   spending-sized ticket = right
 
 -- a call keeps them right, accepted or refused

@@ -34,7 +34,7 @@ module _ (board : List ℕ) (s : Seat) (w : Worker) where
   Known x = x .refusal ≡ 0 → s .worker < 64
 
   number-known : (late : Bool) → startNumber (s .floor) board (s .listed) (s .worker) w late ≡ 0 → s .worker < 64
-  unfolding startNumber
+  unfolding startNumber wrongSizes
   number-known late none =
       let sizes = passes (wrongSizes (s .floor) board (s .listed)) 0 _ none in
       let one = passes (noWorker (s .floor) (s .worker)) 1 _ (sizes .1) in

@@ -1,12 +1,12 @@
 use borrow.Author.Needs.{needs}
 use mathlib.Core.Path.{_∙_}
-use Rattle.engine.specs.Refusals.{wrongFloor, wrongSizes, startNumber}
+use Rattle.engine.specs.Refusals.{startNumber}
 use Rattle.engine.specs.Calls.{startCall}
 use Rattle.engine.proofs.start_insert.Statement.{statement}
 use Rattle.engine.proofs.start_insert.Tie as tie
 
 pub start-insert-spec : {M : Type 1} → statement M
-unfolding startCall startNumber wrongSizes wrongFloor
+unfolding startCall startNumber
 start-insert-spec =
     tie.close
     (tie.spec
