@@ -9,7 +9,7 @@ use Rattle.turn.specs.declared.Worker.{Worker}
 use Rattle.turn.specs.declared.Action.{Action}
 use Rattle.turn.specs.declared.Action.the-variants.{Read, Store, Won, Lost}
 use Rattle.turn.specs.declared.Report.{Report}
-use Rattle.turn.specs.Worker.{idle, lookFor, insertOf, removeOf}
+use Rattle.turn.specs.Worker.{freePlace, idle, lookFor, insertOf, removeOf}
 use Rattle.turn.specs.Places.{Step, turn}
 use Rattle.turn.specs.declared.Tried.{Tried}
 use Rattle.turn.specs.Turn.{Answer, Refused, Done, Turned, After, after, refusing, doing, refused, done}
@@ -108,7 +108,7 @@ turnCall board s w = turned (turnNumber (s .floor) board (s .listed) (s .worker)
 -- "A change is a won swap or the store of place 10."
 abbrev pub changes : ℕ → Action → ℕ
 changes place Read = 0
-changes place Store = cond (eqb place 10) 1 0
+changes place Store = cond (eqb place freePlace) 1 0
 changes place Won = 1
 changes place Lost = 0
 

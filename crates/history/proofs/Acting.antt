@@ -71,7 +71,7 @@ module _ (s : State) (i : ℕ) where
   done = turnDone (s .floor) (s .board) w does
 
   abbrev entry : Entry
-  entry = record { worker = i; bucket = b; place = w .place; report = does .stepped .report }
+  entry = record { worker = i; bucket = b; was = w; report = does .stepped .report }
 
   -- where it is not refused, there is a record for each worker
   listed : number ≡ 0 → length (s .records) ≡ s .floor .workers
@@ -94,7 +94,7 @@ module _ (s : State) (i : ℕ) where
         records = refl;
         last = refl;
         bucket = refl;
-        place = refl;
+        was = refl;
         here = mark-here (s .board) b w ok;
         there = mark-there (s .board) b w ok;
         moves = turn-moves bucket w ok;

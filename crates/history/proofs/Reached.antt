@@ -59,7 +59,7 @@ abbrev pub repeatedTrace : List Entry
 repeatedTrace = trace threeWorkers repeatedWord
 
 -- all that these traces are computed by: what unfolds this unfolds it
-computed : Unit {0}
+unfoldable pub computed : Unit {0}
 unfolding
     twoWorkers threeWorkers stateFrom traceFrom sumFrom turnEntries total cut-later cut-by-number found moment-found
     Calls.openCall Calls.startCall Calls.turned Calls.turnCall Calls.runFrom Calls.runCall
@@ -168,7 +168,7 @@ pub record Repeats : Type 0 where
 pub word-repeats : Repeats
 unfolding computed
 word-repeats =
-    let y : Entry = record { worker = A; bucket = 0; place = 6; report = record { action = Won; progress = GoesOn; full = false } } in
+    let y : Entry = record { worker = A; bucket = 0; was = recordOf (state threeWorkers wordRepeats) A; report = record { action = Won; progress = GoesOn; full = false } } in
     let m : HasMoment (trace threeWorkers wordRepeats) y =
     moment-found y (trace threeWorkers wordRepeats) 29
     (record { own = refl; sees = inl refl; latest = refl; bucket = refl; first = refl; rest = refl }) in

@@ -27,7 +27,7 @@ use Rattle.history.proofs.Histories.{stateFrom-append, traceFrom-append
 -- the totals with these entries more
 abbrev counted : Totals → List Entry → Totals
 counted t [] = t
-counted t (e ∷ es) = counted (tallied (e .place) (e .report) t) es
+counted t (e ∷ es) = counted (tallied (e .was .place) (e .report) t) es
 
 -- the floor, the board and the list of records fit together
 abbrev RightSizes : State → Type 0
@@ -119,11 +119,11 @@ module _ (s : State) (turns : List ℕ) where
 -- ---- what it counts
 
 -- a count that goes up by an entry's number with each entry
-module _ (count : Totals → ℕ) (f : Entry → ℕ) (adds : (e : Entry) (t : Totals) → count (tallied (e .place) (e .report) t) ≡ count t + f e) where
+module _ (count : Totals → ℕ) (f : Entry → ℕ) (adds : (e : Entry) (t : Totals) → count (tallied (e .was .place) (e .report) t) ≡ count t + f e) where
   counted-adds : (t : Totals) (es : List Entry) → count (counted t es) ≡ count t + total f es
   unfolding total
   counted-adds t [] = omega arith
-  counted-adds t (e ∷ es) = omega (arith, adds e t, counted-adds (tallied (e .place) (e .report) t) es)
+  counted-adds t (e ∷ es) = omega (arith, adds e t, counted-adds (tallied (e .was .place) (e .report) t) es)
 
   run-count : count noTurns ≡ 0 → (s : State) (turns : List ℕ) → count (runOf s turns .handed .totals) ≡ total f (entries s (run turns))
   run-count none s turns =

@@ -115,6 +115,7 @@ module _ (s : State) (i : ℕ) {late : Bool} {v : Worker} {g : Floor} (fresh : F
       record {
         who = i;
         within = known .within;
+        was = known .was;
         records = refl;
         marks = λ c. refl;
         held = fresh .held;

@@ -9,6 +9,7 @@ use lib.Dec.{eqb}
 use lib.ListN.{length, set}
 use lib.Seq.{getD-set-same, getD-set-other}
 use Rattle.turn.specs.declared.Worker.{Worker}
+use Rattle.turn.specs.Worker.{lookKind, insertKind, removeKind, noSlot, idle}
 use Rattle.turn.specs.Effects.{Effect, effectOn}
 use Rattle.turn.proofs.Effects.{Aimed, Moves, Swapper, Went}
 use Rattle.turn.proofs.Kept.{Idles}
@@ -32,15 +33,15 @@ worker s i = recordIn (s .records) i
 
 -- 1 for an insert, which has a ticket and may commit
 abbrev pub inserting : Worker → ℕ
-inserting w = cond (eqb (w .kind) 2) 1 0
+inserting w = cond (eqb (w .kind) insertKind) 1 0
 
 -- the changes that a call can still make: an insert two, or one when it holds a slot; a remove one
 abbrev pub left : Worker → ℕ
-left w = cond (eqb (w .kind) 2) (cond (eqb (w .held) 3) 2 1) (cond (eqb (w .kind) 3) 1 0)
+left w = cond (eqb (w .kind) insertKind) (cond (eqb (w .held) noSlot) 2 1) (cond (eqb (w .kind) removeKind) 1 0)
 
 -- an insert or a remove that has read the mark word in its round
 pub record Aware (w : Worker) : Type 0 where
-  pub other : w .kind ≡ 1 → ⊥
+  pub other : w .kind ≡ lookKind → ⊥
   pub from : 2 ≤ w .place
 
 -- as one is whose turn is a swap
@@ -53,6 +54,7 @@ swapper-aware w swapper = record { other = swapper .other; from = swapper .from 
 pub record Starts (s : View) (v : Worker) (t : View) : Type 0 where
   pub who : ℕ
   pub within : who < length (s .records)
+  pub was : worker s who ≡ idle
   pub records : t .records ≡ set (s .records) who v
   pub marks : (c : ℕ) → t .marks c ≡ s .marks c
   -- it holds nothing, has read nothing and aims at nothing
@@ -70,7 +72,7 @@ pub record Acts (n : ℕ) (s : View) (e : Entry) (v : Worker) (t : View) : Type 
   pub records : t .records ≡ set (s .records) (e .worker) v
   pub last : t .last ≡ s .last
   pub bucket : e .bucket ≡ bucketOf (worker s (e .worker) .key) n
-  pub place : e .place ≡ worker s (e .worker) .place
+  pub was : e .was ≡ worker s (e .worker)
   -- what the entry counts for is what the effect does
   pub commits : commitOf e ≡ committed effect
   pub closes : closeOf e ≡ closed effect

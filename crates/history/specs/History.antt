@@ -8,6 +8,7 @@ use mathlib.Core.Path.{_≡_}
 use lib.Dec.{eqb}
 use lib.ListN.{length, set}
 use Rattle.turn.specs.declared.Worker.{Worker}
+use Rattle.turn.specs.Worker.{lookKind, insertKind, removeKind}
 use Rattle.turn.specs.Turn.{Answer, Refused, Done, Turned, After}
 use Rattle.engine.specs.declared.Floor.{Floor}
 use Rattle.engine.specs.declared.Plan.{Plan}
@@ -129,7 +130,7 @@ after s count = s
 abbrev pub entryOf : State → ℕ → Answer → List Entry
 entryOf s i (Refused number) = []
 entryOf s i (Done report) =
-    record { worker = i; bucket = bucketOf (recordOf s i .key) (s .floor .buckets); place = recordOf s i .place; report = report } ∷ []
+    record { worker = i; bucket = bucketOf (recordOf s i .key) (s .floor .buckets); was = recordOf s i; report = report } ∷ []
 
 -- the entry of one turn
 abbrev pub turnEntry : State → ℕ → List Entry
@@ -182,9 +183,9 @@ begun kind x = cond (eqb (x .refusal) 0) kind 0
 
 -- "kind (0 idle, 1 look, 2 insert, 3 remove)" of the call that a call of the library begins; 0 where it begins none
 abbrev pub begins : State → Call → ℕ
-begins s (look i lot) = begun 1 (lookBy s i lot)
-begins s (insert i lot t) = begun 2 (insertBy s i lot t)
-begins s (remove i lot) = begun 3 (removeBy s i lot)
+begins s (look i lot) = begun lookKind (lookBy s i lot)
+begins s (insert i lot t) = begun insertKind (insertBy s i lot t)
+begins s (remove i lot) = begun removeKind (removeBy s i lot)
 begins s (turn i) = 0
 begins s (run turns) = 0
 begins s (show lot) = 0
@@ -205,11 +206,11 @@ module _ (o : Opening) (calls : List Call) where
 
   -- I, the inserts that were accepted
   abbrev pub inserts : ℕ
-  inserts = sumFrom (isStart 2) (opened o) calls
+  inserts = sumFrom (isStart insertKind) (opened o) calls
 
   -- R, the removes that were accepted
   abbrev pub removes : ℕ
-  removes = sumFrom (isStart 3) (opened o) calls
+  removes = sumFrom (isStart removeKind) (opened o) calls
 
   -- (W - 1)(2I + R), which demand 3 allows
   abbrev pub mostLost : ℕ

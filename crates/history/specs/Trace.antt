@@ -5,16 +5,18 @@ use mathlib.Core.Bool.{cond}
 use mathlib.Core.List.{List, [], _∷_, _++_}
 use mathlib.Core.Logic.{_⊎_}
 use mathlib.Core.Path.{_≡_}
+use Rattle.turn.specs.declared.Worker.{Worker}
+use Rattle.turn.specs.Worker.{readPlace, claimPlace, ticketPlace, commitPlace, freePlace, closePlace}
 use Rattle.turn.specs.declared.Action.the-variants.{Store, Won, Lost}
 use Rattle.turn.specs.declared.Progress.the-variants.{GoesOn}
 use Rattle.turn.specs.declared.Report.{Report}
 use Rattle.engine.specs.Calls.{changes, losses}
 
--- a turn that was done: the worker, the bucket of its lot, its place before the turn, and the turn's report
+-- a turn that was done: the worker, the bucket of its lot, the worker's record as it was before the turn, and the turn's report
 pub record Entry : Type 0 where
   pub worker : ℕ
   pub bucket : ℕ
-  pub place : ℕ
+  pub was : Worker
   pub report : Report
 
 -- ---- what an entry is
@@ -31,21 +33,21 @@ Loses e = e .report .action ≡ Lost
 abbrev pub Swaps : Entry → Type 0
 Swaps e = Wins e ⊎ Loses e
 
--- a commit is a won swap of place 9
+-- a won swap by which an insert makes its slot valid
 abbrev pub Commits : Entry → Type 0
-Commits e = (e .place ≡ 9) × Wins e
+Commits e = (e .was .place ≡ commitPlace) × Wins e
 
--- a close is a won swap of place 13
+-- a won swap by which a remove empties a valid slot
 abbrev pub Closes : Entry → Type 0
-Closes e = (e .place ≡ 13) × Wins e
+Closes e = (e .was .place ≡ closePlace) × Wins e
 
--- the store of place 10, by which an insert gives its slot back
+-- the store by which an insert gives its slot back
 abbrev pub Frees : Entry → Type 0
-Frees e = (e .place ≡ 10) × (e .report .action ≡ Store)
+Frees e = (e .was .place ≡ freePlace) × (e .report .action ≡ Store)
 
--- a claim is a won swap of place 6
+-- a won swap by which an insert takes an empty slot
 abbrev pub Claims : Entry → Type 0
-Claims e = (e .place ≡ 6) × Wins e
+Claims e = (e .was .place ≡ claimPlace) × Wins e
 
 -- "A change is a won swap or the store of place 10."
 abbrev pub Changes : Entry → Type 0
@@ -53,7 +55,7 @@ Changes e = Wins e ⊎ Frees e
 
 -- "read mark word into word" is place 1; no other place reads it whole
 abbrev pub ReadsWhole : Entry → Type 0
-ReadsWhole e = e .place ≡ 1
+ReadsWhole e = e .was .place ≡ readPlace
 
 -- "the call goes on"
 abbrev pub Continues : Entry → Type 0
@@ -88,7 +90,7 @@ lossOf e = losses (e .report .action)
 
 -- 1 for a change
 abbrev pub changeOf : Entry → ℕ
-changeOf e = changes (e .place) (e .report .action)
+changeOf e = changes (e .was .place) (e .report .action)
 
 -- 1 for a full round
 abbrev pub fullOf : Entry → ℕ

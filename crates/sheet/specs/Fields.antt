@@ -4,6 +4,7 @@ use mathlib.Core.Bool.{Bool, false, cond, _&&_, not}
 use mathlib.Core.List.{List}
 use lib.ListN.{length, getD}
 use lib.Dec.{eqb, leb}
+use Rattle.turn.specs.Worker.{lookKind, insertKind, removeKind}
 use Rattle.engine.specs.declared.Plan.{Plan}
 use Rattle.sheet.specs.declared.Call.{Call}
 use Rattle.sheet.specs.declared.Span.{Span}
@@ -40,13 +41,13 @@ planAt sheet at = record { workers = byteAt sheet (at + 3); buckets = numberAt s
 -- "kind 1..3"; "for an insert ticket (4), so 10 or 14 bytes"
 unfoldable pub callFits : ℕ → ℕ → Bool
 callFits kind long =
-    cond (eqb kind 1) (eqb long 10)
-    (cond (eqb kind 2) (eqb long 14)
-    (cond (eqb kind 3) (eqb long 10) false))
+    cond (eqb kind lookKind) (eqb long 10)
+    (cond (eqb kind insertKind) (eqb long 14)
+    (cond (eqb kind removeKind) (eqb long 10) false))
 
 -- "for an insert ticket (4)"; another call has none
 unfoldable pub ticketAt : List ℕ → ℕ → ℕ → ℕ
-ticketAt sheet at kind = cond (eqb kind 2) (numberAt sheet (at + 13) 4) 0
+ticketAt sheet at kind = cond (eqb kind insertKind) (numberAt sheet (at + 13) 4) 0
 
 -- "worker (1), kind 1..3 (1), lot (8)"
 abbrev pub callAt : List ℕ → ℕ → Call

@@ -8,7 +8,7 @@ use lib.Dec.{eqb}
 use Rattle.turn.specs.declared.Worker.{Worker}
 use Rattle.turn.specs.declared.Progress.{Progress}
 use Rattle.turn.specs.declared.Progress.the-variants.{GoesOn, Ended}
-use Rattle.turn.specs.Worker.{idle}
+use Rattle.turn.specs.Worker.{lookKind, insertKind, idle}
 use Rattle.turn.specs.Turn.{Answer, Refused, Done, Turned, After, after}
 use Rattle.engine.specs.declared.Floor.{Floor}
 use Rattle.engine.specs.declared.Plan.{Plan}
@@ -83,8 +83,8 @@ openField p s =
 -- a call is the engine's start of its kind
 unfoldable pub asked : List ℕ → Seat → Worker → Call → Started
 asked board seat w c =
-    cond (eqb (c .kind) 1) (lookCall board seat w (c .lot))
-    (cond (eqb (c .kind) 2) (insertCall board seat w (record { lot = c .lot; ticket = c .ticket }))
+    cond (eqb (c .kind) lookKind) (lookCall board seat w (c .lot))
+    (cond (eqb (c .kind) insertKind) (insertCall board seat w (record { lot = c .lot; ticket = c .ticket }))
     (removeCall board seat w (c .lot)))
 
 -- what a start leaves is put back at the worker's number; a start lists nothing

@@ -1,11 +1,11 @@
--- A turn keeps the bucket's length, goes by one word and changes no other, and changes none where it reports a read or a lost swap.
--- Assumes nothing.
-use Prim.Native.Nat.{ℕ, zero, suc}
+-- A turn keeps the bucket's length, goes by one word and changes no other, makes of that word what it and the worker's record say, and
+-- changes none where it reports a read or a lost swap. Assumes nothing.
+use Prim.Native.Nat.{ℕ, zero, suc, _<_}
 use mathlib.Core.Bool.{Bool, true, false, cond}
-use mathlib.Core.Path.{_≡_, refl, ap}
+use mathlib.Core.Path.{_≡_, refl, sym, ap, _∙_}
 use mathlib.Core.List.{List, [], _∷_}
 use lib.ListN.{length, getD, set, length-set}
-use lib.Seq.{getD-set-other}
+use lib.Seq.{getD-set-same, getD-set-other}
 use Rattle.mark.proofs.Choices.{by-cases, not-both}
 use Rattle.turn.specs.declared.Worker.{Worker}
 use Rattle.turn.specs.declared.Action.{Action}
@@ -76,6 +76,34 @@ module _ (b c : List ℕ) (w : Worker) where
   pub turn-one-reading : cell b (touched w) ≡ cell c (touched w) → turn b w .stepped ≡ turn c w .stepped
   unfolding turn
   turn-one-reading = does-one-reading (getD rows (w .place) stays)
+
+  -- in a bucket that has the touched cell
+  does-one-writing :
+      (a : Act)
+      → cellOf a w < length b
+      → cellOf a w < length c
+      → cell b (cellOf a w) ≡ cell c (cellOf a w)
+      → cell (does a b w .bucket) (cellOf a w) ≡ cell (does a c w .bucket) (cellOf a w)
+  does-one-writing (read at next) in-b in-c same = same
+  does-one-writing (store at what next) in-b in-c same =
+      getD-set-same b (at w) _ 0 in-b ∙ ap (λ old. what old w) same ∙ sym (getD-set-same c (at w) _ 0 in-c)
+  does-one-writing (swap expected new won) in-b in-c same = rw same (same-word (wins c (expected w)))
+    where
+      same-word :
+          (t : Bool)
+          → cell (cond t (leaves (set b markCell (new w)) (won w)) (leaves b (loses w)) .bucket) markCell
+          ≡ cell (cond t (leaves (set c markCell (new w)) (won w)) (leaves c (loses w)) .bucket) markCell
+      same-word true = getD-set-same b markCell (new w) 0 in-b ∙ sym (getD-set-same c markCell (new w) 0 in-c)
+      same-word false = same
+
+  -- the touched cell afterwards depends on that cell and on the worker's record alone
+  pub turn-one-writing :
+      touched w < length b
+      → touched w < length c
+      → cell b (touched w) ≡ cell c (touched w)
+      → cell (turn b w .bucket) (touched w) ≡ cell (turn c w .bucket) (touched w)
+  unfolding turn
+  turn-one-writing = does-one-writing (getD rows (w .place) stays)
 
 -- ---- a read and a lost swap change nothing
 

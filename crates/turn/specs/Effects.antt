@@ -3,6 +3,7 @@ use Prim.Native.Nat.{ℕ}
 use mathlib.Core.Bool.{cond}
 use lib.Dec.{eqb}
 use Rattle.mark.specs.Word.{setMark, bump}
+use Rattle.turn.specs.Worker.{claimPlace, commitPlace, freePlace}
 use Rattle.turn.specs.declared.Worker.{Worker}
 use Rattle.turn.specs.declared.Action.{Action}
 use Rattle.turn.specs.declared.Action.the-variants.{Read, Store, Won, Lost}
@@ -23,9 +24,9 @@ effectOn (commit s) m = bump (setMark m s 1)
 effectOn (free s) m = setMark m s 0
 effectOn (close s) m = setMark m s 0
 
--- a won swap is the claim of place 6, the commit of place 9 or the close of place 13; the store of place 10 is a free
+-- a won swap is a claim, a commit or a close, by its place; one store frees, the others touch no mark
 abbrev pub effectOf : Worker → Action → Effect
 effectOf w Read = none
-effectOf w Store = cond (eqb (w .place) 10) (free (w .held)) none
-effectOf w Won = cond (eqb (w .place) 6) (claim (w .slot)) (cond (eqb (w .place) 9) (commit (w .held)) (close (w .slot)))
+effectOf w Store = cond (eqb (w .place) freePlace) (free (w .held)) none
+effectOf w Won = cond (eqb (w .place) claimPlace) (claim (w .slot)) (cond (eqb (w .place) commitPlace) (commit (w .held)) (close (w .slot)))
 effectOf w Lost = none

@@ -10,7 +10,7 @@ use Rattle.turn.specs.declared.Action.{Action}
 use Rattle.turn.specs.declared.Action.the-variants.{Read, Store, Won, Lost}
 use Rattle.turn.specs.declared.Progress.the-variants.{GoesOn, Ended}
 use Rattle.turn.specs.declared.Stepped.{Stepped}
-use Rattle.turn.specs.Worker.{idle, goTo, atSlot, saw, readWord, claimed}
+use Rattle.turn.specs.Worker.{lookKind, removeKind, noSlot, idle, goTo, atSlot, saw, readWord, claimed}
 use Rattle.turn.specs.Bucket.{markCell, keyCell, valueCell, cell}
 
 -- ---- the report: "read, store, won or lost, and beside it that the call goes on, or it ended with this answer; also whether it
@@ -28,7 +28,7 @@ ends action answer = record { worker = idle; report = record { action = action; 
 
 -- "A look call that finds ends with seen"; "An insert that finds: held 3 ends with 0, else place 10." (figure 6, line 14; figure 7, lines 15 to 22)
 unfoldable pub lookFound : Worker → Stepped
-lookFound w = cond (eqb (w .kind) 1) (ends Read (w .seen)) (cond (eqb (w .held) 3) (ends Read 0) (goesOn Read false (goTo 10 w)))
+lookFound w = cond (eqb (w .kind) lookKind) (ends Read (w .seen)) (cond (eqb (w .held) noSlot) (ends Read 0) (goesOn Read false (goTo 10 w)))
 
 -- "6 with slot the first whose mark in word is 0; if there is none .. 1 with slot 0, and that is one full round" (figure 7, lines 24 to 30)
 unfoldable pub findSlot : Worker → Stepped
@@ -36,7 +36,7 @@ findSlot w = cond (ltb (firstEmpty (w .word)) 3) (goesOn Read false (atSlot 6 (f
 
 -- "an empty one with 0"; "An insert whose look is empty: held not 3 goes to 9" (figure 6, lines 18 and 23; figure 7, lines 24 and 41 to 44)
 unfoldable pub lookEmpty : Worker → Stepped
-lookEmpty w = cond (eqb (w .kind) 1) (ends Read 0) (cond (eqb (w .held) 3) (findSlot w) (goesOn Read false (goTo 9 w)))
+lookEmpty w = cond (eqb (w .kind) lookKind) (ends Read 0) (cond (eqb (w .held) noSlot) (findSlot w) (goesOn Read false (goTo 9 w)))
 
 -- "slot plus one, place 2; after slot 2 the look is empty" (figure 6, lines 5 and 23)
 unfoldable pub nextSlot : Worker → Stepped
@@ -46,7 +46,7 @@ nextSlot w = cond (ltb (w .slot) 2) (goesOn Read false (atSlot 2 (w .slot + 1) w
 
 -- "insert 2; remove 11"
 unfoldable pub after1 : Worker → ℕ → Stepped
-after1 w x = cond (eqb (w .kind) 3) (goesOn Read false (readWord 11 x w)) (goesOn Read false (readWord 2 x w))
+after1 w x = cond (eqb (w .kind) removeKind) (goesOn Read false (readWord 11 x w)) (goesOn Read false (readWord 2 x w))
 
 -- "into seen .. 3"
 unfoldable pub after2 : Worker → ℕ → Stepped

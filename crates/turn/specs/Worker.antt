@@ -1,31 +1,77 @@
--- A worker's record. Kinds: 0 idle, 1 look, 2 insert, 3 remove. Quotations are document 01's.
+-- A worker's record, and names for the kinds and places that other rules speak of. Quotations are document 01's.
 use Prim.Native.Nat.{ℕ}
 use mathlib.Core.Bool.{Bool, false, cond, _&&_, _||_, not}
 use lib.Dec.{eqb, leb}
 use Rattle.mark.specs.Word.{wellFormed}
 use Rattle.turn.specs.declared.Worker.{Worker}
 
+-- ---- "kind (0 idle, 1 look, 2 insert, 3 remove)"
+
+-- a look
+abbrev pub lookKind : ℕ
+lookKind = 1
+
+-- an insert
+abbrev pub insertKind : ℕ
+insertKind = 2
+
+-- a remove
+abbrev pub removeKind : ℕ
+removeKind = 3
+
+-- ---- the places that read the mark word whole or change it, and the one that stores a ticket
+
+-- the mark word is read whole
+abbrev pub readPlace : ℕ
+readPlace = 1
+
+-- an insert claims a slot
+abbrev pub claimPlace : ℕ
+claimPlace = 6
+
+-- it stores its ticket
+abbrev pub ticketPlace : ℕ
+ticketPlace = 7
+
+-- it commits
+abbrev pub commitPlace : ℕ
+commitPlace = 9
+
+-- it gives its slot back
+abbrev pub freePlace : ℕ
+freePlace = 10
+
+-- a remove closes a lot
+abbrev pub closePlace : ℕ
+closePlace = 13
+
+-- ---- records
+
+-- "held .. 3 for none"
+abbrev pub noSlot : ℕ
+noSlot = 3
+
 -- "Idle means all fields 0 but held, which is 3."
 abbrev pub idle : Worker
-idle = record { kind = 0; place = 0; key = 0; ticket = 0; slot = 0; word = 0; held = 3; seen = 0 }
+idle = record { kind = 0; place = 0; key = 0; ticket = 0; slot = 0; word = 0; held = noSlot; seen = 0 }
 
 -- ---- the record that a start leaves
 
 -- "Every start fills kind and key, and leaves held 3 and the rest 0 except" the place and an insert's ticket
 abbrev pub started : ℕ → ℕ → ℕ → ℕ → Worker
-started k p lot t = record { kind = k; place = p; key = lot; ticket = t; slot = 0; word = 0; held = 3; seen = 0 }
+started k p lot t = record { kind = k; place = p; key = lot; ticket = t; slot = 0; word = 0; held = noSlot; seen = 0 }
 
 -- "a look starts at place 2"
 abbrev pub lookFor : ℕ → Worker
-lookFor lot = started 1 2 lot 0
+lookFor lot = started lookKind 2 lot 0
 
 -- "insert and remove at place 1; an insert has its ticket"
 abbrev pub insertOf : ℕ → ℕ → Worker
-insertOf lot t = started 2 1 lot t
+insertOf lot t = started insertKind readPlace lot t
 
 -- a remove has no ticket
 abbrev pub removeOf : ℕ → Worker
-removeOf lot = started 3 1 lot 0
+removeOf lot = started removeKind readPlace lot 0
 
 -- ---- a record with some fields changed: "Fields not named are unchanged."
 
@@ -70,22 +116,22 @@ within lo hi n = leb lo n && leb n hi
 -- "look at 2..5 ..; insert at 1..10; remove at 1 or 11..13"
 unfoldable pub mayStand : ℕ → ℕ → Bool
 mayStand kind place =
-    cond (eqb kind 1) (within 2 5 place)
-    (cond (eqb kind 2) (within 1 10 place)
-    (cond (eqb kind 3) (eqb place 1 || within 11 13 place) false))
+    cond (eqb kind lookKind) (within 2 5 place)
+    (cond (eqb kind insertKind) (within 1 10 place)
+    (cond (eqb kind removeKind) (eqb place 1 || within 11 13 place) false))
 
 -- "ticket at least 1 for an insert and 0 otherwise"
 unfoldable pub ticketFits : ℕ → ℕ → Bool
-ticketFits kind ticket = cond (eqb kind 2) (leb 1 ticket) (eqb ticket 0)
+ticketFits kind ticket = cond (eqb kind insertKind) (leb 1 ticket) (eqb ticket 0)
 
 -- "held 3 except in an insert, where it is 3 at place 6, 0..2 at 7..10, either at 1..5"
 unfoldable pub heldFits : ℕ → ℕ → ℕ → Bool
 heldFits kind place held =
-    cond (eqb kind 2) (cond (eqb place 6) (eqb held 3) (cond (leb 7 place) (leb held 2) (leb held 3))) (eqb held 3)
+    cond (eqb kind insertKind) (cond (eqb place 6) (eqb held noSlot) (cond (leb 7 place) (leb held 2) (leb held noSlot))) (eqb held noSlot)
 
 -- a look's "word 0"; "word's marks at most 2 and its byte 7 zero"
 unfoldable pub wordFits : ℕ → ℕ → Bool
-wordFits kind word = cond (eqb kind 1) (eqb word 0) (wellFormed word)
+wordFits kind word = cond (eqb kind lookKind) (eqb word 0) (wellFormed word)
 
 -- what a busy record's kind asks of its place, ticket, held and word
 unfoldable pub fits : ℕ → ℕ → ℕ → ℕ → ℕ → Bool
