@@ -8,4 +8,5 @@ pub mod Parts
 pub mod Refused
 pub mod Sizes
 pub mod Stops
+pub mod Tallies
 pub mod Turns

@@ -14,7 +14,7 @@ use Rattle.turn.specs.Places.{Step, turn}
 use Rattle.turn.specs.Turn.{Turned, After, after, refusing}
 use Rattle.turn.proofs.Sound.{Accepted}
 use Rattle.turn.proofs.Cells.{turn-long}
-use Rattle.turn.proofs.Effects.{turn-moves, turn-went, turn-effect, turn-aims}
+use Rattle.turn.proofs.Effects.{turn-moves, turn-went, turn-won-at, turn-effect, turn-aims}
 use Rattle.turn.proofs.Kept.{turn-idles}
 use Rattle.engine.specs.Board.{bucketOf, bucketAt, withBucket}
 use Rattle.engine.specs.Refusals.{wrongSizes, turnNumber}
@@ -88,7 +88,7 @@ module _ (s : State) (i : ℕ) where
       record {
         effect = effectOf w action;
         commits = commit-is w action;
-        closes = close-is w action;
+        closes = close-is w action (turn-won-at bucket w ok);
         changes = change-is w action;
         within = omega (arith, listed none, known .2);
         records = refl;

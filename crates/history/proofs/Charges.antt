@@ -13,10 +13,11 @@ use Rattle.turn.specs.Worker.{idle}
 use Rattle.turn.specs.Effects.{Effect, effectOn}
 use Rattle.turn.proofs.Effects.{SameCall, Moves, reads, goes, again, answers, claims, commits, frees, closes, Went}
 use Rattle.engine.specs.Board.{bucketOf}
-use Rattle.engine.specs.Calls.{losses}
-use Rattle.history.specs.Trace.{Entry, changeOf}
+use Rattle.history.specs.Trace.{Entry}
+use Rattle.history.specs.Counts.{loses?, oneIf}
 use Rattle.history.proofs.View.{View, worker, inserting, left, Aware, swapper-aware, Acts, quiet-marks}
 use Rattle.history.proofs.Lawful.{committed, changed}
+use Rattle.history.proofs.Counts.{lossOf, changeOf}
 use Rattle.history.proofs.Held.{home, Kept}
 use Rattle.history.proofs.Minds.{Minds, renews, keeps, forgets, act-expects}
 
@@ -95,7 +96,7 @@ module _ (n : ℕ) (s : View) (e : Entry) (v : Worker) (t : View) (kept : Kept n
   effect = act .effect
 
   -- the worker of a lost swap was stale
-  lost-stale : (a : Action) → Went (s .marks (e .bucket)) w v a → losses a ≤ stale n (s .marks) w
+  lost-stale : (a : Action) → Went (s .marks (e .bucket)) w v a → oneIf (loses? a) ≤ stale n (s .marks) w
   lost-stale Read went = omega arith
   lost-stale Store went = omega arith
   lost-stale Won went = omega arith
@@ -106,8 +107,8 @@ module _ (n : ℕ) (s : View) (e : Entry) (v : Worker) (t : View) (kept : Kept n
       let differs : w .word ≡ s .marks (home n w) → ⊥ = λ same. known .1 (word ∙ same ∙ ap (s .marks) (sym (act .bucket))) in
       omega (arith, is-stale n (s .marks) w (swapper-aware w swapper) differs)
 
-  -- and is at place 1
-  lost-again : (a : Action) → Went (s .marks (e .bucket)) w v a → 2 ≤ v .place → losses a ≡ 0
+  -- a lost swap leaves its worker at place 1
+  lost-again : (a : Action) → Went (s .marks (e .bucket)) w v a → 2 ≤ v .place → oneIf (loses? a) ≡ 0
   lost-again Read went past = refl
   lost-again Store went past = refl
   lost-again Won went past = refl
@@ -117,7 +118,7 @@ module _ (n : ℕ) (s : View) (e : Entry) (v : Worker) (t : View) (kept : Kept n
   fresh-word key word = word ∙ sym (act .here) ∙ ap (t .marks) (act .bucket ∙ ap (λ (k : ℕ). bucketOf k n) (sym key))
 
   -- a turn that changed nothing pays for its lost swap by being stale no more
-  pub quiet-pays : changeOf e ≡ 0 → Minds (s .marks (e .bucket)) w effect v → losses a + stale n (t .marks) v ≤ stale n (s .marks) w
+  pub quiet-pays : changeOf e ≡ 0 → Minds (s .marks (e .bucket)) w effect v → lossOf e + stale n (t .marks) v ≤ stale n (s .marks) w
   quiet-pays quiet (renews how key word) =
       omega (arith, lost-stale a (act .went), not-stale n (t .marks) v (λ aware. fresh-word key word))
   quiet-pays quiet (keeps is call word from to) =

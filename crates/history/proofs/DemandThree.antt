@@ -7,11 +7,12 @@ use mathlib.Core.Path.{_≡_, ap, _∙_}
 use mathlib.Core.Logic.{_⊎_, inl, inr}
 use native.Mathlib.Nat.{mul-le-mul-left}
 use native.Mathlib.Omega.{arith}
-use Rattle.history.specs.Trace.{Entry, Wins, Loses, Swaps, Some, None, total, lossOf, lostSwaps, changeOf}
+use Rattle.history.specs.Trace.{Entry, Wins, Loses, Swaps, Some, None, total}
+use Rattle.history.specs.Counts.{lostSwaps, changesIn}
 use Rattle.history.specs.History.{Opening, Call, opened, workersOf, state, trace, inserts, removes, mostLost}
 use Rattle.history.specs.Moment.{IsMoment, HasMoment, ChangedByAnother, CommittedOrClosedByAnother}
 use Rattle.history.proofs.View.{View, Walk}
-use Rattle.history.proofs.Counts.{onto, total-onto}
+use Rattle.history.proofs.Counts.{lossOf, onto, total-onto}
 use Rattle.history.proofs.Good.{walk-good}
 use Rattle.history.proofs.Cuts.{cut-at}
 use Rattle.history.proofs.Remembers.{Still, back}
@@ -83,7 +84,7 @@ module _ (o : Opening) (calls : List Call) where
   lost-swaps-bound =
       let good = walk-good (workersOf o) n (o .plan .version) walk [] 0 (opened-good o) in
       let lost = total-onto lossOf (trace o calls) [] in
-      let changes = total changeOf (onto (trace o calls) []) in
+      let changes = changesIn (onto (trace o calls) []) in
       let allowed = 2 * inserts o calls + removes o calls in
       let paid = mul-le-mul-left {m = changes} {n = allowed} (workersOf o - 1) (omega (arith, good .budget)) in
       omega (arith, good .charge, lost, paid)

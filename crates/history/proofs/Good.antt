@@ -8,12 +8,12 @@ use native.Mathlib.Omega.{arith}
 use lib.ListN.{length, length-set}
 use Rattle.turn.specs.declared.Worker.{Worker}
 use Rattle.turn.specs.Effects.{Effect}
-use Rattle.engine.specs.Calls.{losses}
-use Rattle.history.specs.Trace.{Entry, total, lostSwaps, changeOf}
+use Rattle.history.specs.Trace.{Entry, total}
+use Rattle.history.specs.Counts.{lostSwaps, changesIn}
 use Rattle.history.proofs.Sums.{sum-set, sum-others}
 use Rattle.history.proofs.View.{View, worker, inserting, left, Starts, Acts, quiet-marks, Walk, stays, starts, acts}
 use Rattle.history.proofs.Lawful.{changed, committed, changed-le}
-use Rattle.history.proofs.Counts.{commitOf, lost-quiet, onto}
+use Rattle.history.proofs.Counts.{lossOf, changeOf, commitOf, lost-quiet, onto}
 use Rattle.history.proofs.Held.{Kept, act-kept, start-kept}
 use Rattle.history.proofs.Versions.{Tells, act-tells}
 use Rattle.history.proofs.Minds.{moves-minds}
@@ -28,9 +28,9 @@ pub record Good (workers n version : ℕ) (s : View) (past : List Entry) (k : �
   pub tickets : total commitOf past + total inserting (s .records) ≤ s .last
   pub fits : s .last < 2 ^ 32
   -- a change makes each of the other workers stale at most, and only a stale worker loses
-  pub charge : lostSwaps past + total (stale n (s .marks)) (s .records) ≤ (workers - 1) * total changeOf past
+  pub charge : lostSwaps past + total (stale n (s .marks)) (s .records) ≤ (workers - 1) * changesIn past
   -- a change is one that the call's start has paid for
-  pub budget : total changeOf past + total left (s .records) ≤ k
+  pub budget : changesIn past + total left (s .records) ≤ k
 
 module _ (workers n version : ℕ) where
   module _
@@ -54,20 +54,20 @@ module _ (workers n version : ℕ) where
     -- where the turn changed nothing, and where it changed the mark word
     charged :
         Dec (changeOf e ≡ 0)
-        → lostSwaps (e ∷ past) + total (stale n (t .marks)) (t .records) ≤ (workers - 1) * total changeOf (e ∷ past)
+        → lostSwaps (e ∷ past) + total (stale n (t .marks)) (t .records) ≤ (workers - 1) * changesIn (e ∷ past)
     unfolding total
     charged (yes quiet) =
         rw (act .records, quiet)
         (omega (
           arith,
           good .charge,
-          sum-set (stale n (s .marks)) (stale n (t .marks)) (losses (e .report .action)) 0 v
+          sum-set (stale n (s .marks)) (stale n (t .marks)) (lossOf e) 0 v
               (stale-same n (s .marks) (t .marks) (quiet-marks act quiet)) (s .records) (e .worker) (act .within)
               (omega (arith, quiet-pays n s e v t (good .kept) act quiet (moves-minds _ _ _ _ (act .moves)))),
         ))
     charged (no loud) =
         let one : changeOf e ≡ 1 = omega (arith, act .changes, changed-le effect) in
-        let more = mul-add (workers - 1) 1 (total changeOf past) in
+        let more = mul-add (workers - 1) 1 (changesIn past) in
         let long : length (s .records) ≡ workers = good .listed in
         let some : e .worker < length (s .records) = act .within in
         rw (act .records, one)

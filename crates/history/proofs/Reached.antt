@@ -21,7 +21,8 @@ use Rattle.engine.specs.Refusals as Refusals
 use Rattle.engine.specs.Refusals.{openNumber}
 use Rattle.engine.specs.Calls as Calls
 use Rattle.engine.specs.Calls.{planned, blank}
-use Rattle.history.specs.Trace.{Entry, Loses, Claims, Commits, Closes, Frees, ReadsWhole, Some, total, lostSwaps, changeOf}
+use Rattle.history.specs.Trace.{Entry, Loses, Claims, Commits, Closes, Frees, ReadsWhole, Some, total}
+use Rattle.history.specs.Counts.{lostSwaps, changesIn}
 use Rattle.history.specs.History.{Opening, Call, recordOf, state, trace, turnEntries, stateFrom, traceFrom, sumFrom, inserts, removes}
 use Rattle.history.specs.Moment.{AnothersIn, HasMoment}
 use Rattle.history.specs.Trials.{A, planFor, sleeper, wordRepeats, repeatedWord, refusedStarts}
@@ -104,7 +105,7 @@ every-kind-reached =
 -- a history of so many turns, changes, lost swaps, accepted inserts and accepted removes
 pub record Totals (o : Opening) (calls : List Call) (turns changed lost inserted removed : ℕ) : Type 0 where
   pub turns-are : length (trace o calls) ≡ turns
-  pub changes-are : total changeOf (trace o calls) ≡ changed
+  pub changes-are : changesIn (trace o calls) ≡ changed
   pub lost-are : lostSwaps (trace o calls) ≡ lost
   pub inserts-are : inserts o calls ≡ inserted
   pub removes-are : removes o calls ≡ removed

@@ -17,9 +17,12 @@ use Rattle.engine.specs.Refusals.{wrongSizes, turnNumber, runNumber}
 use Rattle.engine.specs.Calls.{Ran, tallied, noTurns, standing, goOn, turned, turnCall, runFrom, runCall}
 use Rattle.engine.proofs.Stops.{run-turn-is-turn}
 use Rattle.engine.proofs.Keeps.{turn-keeps}
-use Rattle.history.specs.Trace.{Entry, total, lostSwaps, changeOf, fullOf}
+use Rattle.engine.proofs.Tallies.{losses-lost, losses-other, changes-change, changes-other}
+use Rattle.history.specs.Trace.{Entry, total}
+use Rattle.history.specs.Counts.{isLost, isChange, lostSwaps, changesIn, fullRounds}
 use Rattle.history.specs.History.{State, Opening, Call, turn, run, opened, seatOf, recordOf, turnBy, runOf, turnedAs, ranAs, after}
 use Rattle.history.specs.History.{entryOf, andThen, turnEntries, entries, stateFrom, traceFrom, state, trace}
+use Rattle.history.proofs.Counts.{one-is}
 use Rattle.history.proofs.Histories.{stateFrom-append, traceFrom-append}
 
 -- ---- how the turns of a run come out
@@ -141,14 +144,18 @@ module _ (s : State) (turns : List ℕ) where
 
   -- the lost swaps that it reports are theirs
   pub run-lost : runOf s turns .handed .totals .lost ≡ lostSwaps (entries s (run turns))
-  run-lost = run-count (λ t. t .lost) _ (λ e t. refl) refl s turns
+  run-lost =
+      run-count (λ t. t .lost) _
+      (λ e t. ap (λ (n : ℕ). t .lost + n) (one-is (isLost e) _ (losses-lost _) (losses-other _))) refl s turns
 
   -- and so are the changes
-  pub run-changes : runOf s turns .handed .totals .changes ≡ total changeOf (entries s (run turns))
-  run-changes = run-count (λ t. t .changes) _ (λ e t. refl) refl s turns
+  pub run-changes : runOf s turns .handed .totals .changes ≡ changesIn (entries s (run turns))
+  run-changes =
+      run-count (λ t. t .changes) _
+      (λ e t. ap (λ (n : ℕ). t .changes + n) (one-is (isChange e) _ (changes-change _ _) (changes-other _ _))) refl s turns
 
   -- and the reports of a full round
-  pub run-full : runOf s turns .handed .totals .full ≡ total fullOf (entries s (run turns))
+  pub run-full : runOf s turns .handed .totals .full ≡ fullRounds (entries s (run turns))
   run-full = run-count (λ t. t .full) _ (λ e t. refl) refl s turns
 
   -- ---- what it leaves and does

@@ -10,10 +10,11 @@ use native.Mathlib.Omega.{arith}
 use Rattle.turn.specs.declared.Worker.{Worker}
 use Rattle.turn.proofs.Effects.{Swapper, expects}
 use Rattle.engine.specs.Board.{bucketOf}
-use Rattle.history.specs.Trace.{Entry, Wins, Loses, Swaps, Commits, Closes, Changes, Some, None, total, changeOf}
+use Rattle.history.specs.Trace.{Entry, Wins, Loses, Swaps, Commits, Closes, Changes, Some, None, total}
+use Rattle.history.specs.Counts.{isChange, isCommit, isClose}
 use Rattle.history.specs.Moment.{Own, IsMoment, HasMoment, ChangedByAnother, CommittedOrClosedByAnother}
 use Rattle.history.proofs.View.{View, worker, Aware, swapper-aware, Acts, quiet-marks, Walk, stays, starts, acts, new-record}
-use Rattle.history.proofs.Counts.{change-or-none, change-counts, commitOf, closeOf}
+use Rattle.history.proofs.Counts.{one-yes, one-or-none, changeOf, commitOf, closeOf}
 use Rattle.history.proofs.Counts.{inBucket, in-bucket, in-bucket-le, onto, total-onto}
 use Rattle.history.proofs.Held.{home}
 use Rattle.history.proofs.Versions.{Tells}
@@ -30,7 +31,7 @@ ChangesIn b e = (e .bucket ≡ b) × Changes e
 
 module _ {n : ℕ} (b : ℕ) where
   act-quiet : {s : View} {e : Entry} {v : Worker} {t : View} → Acts n s e v t → (ChangesIn b e → ⊥) → t .marks b ≡ s .marks b
-  act-quiet {s} {e} {v} {t} act none = by (ℕ-discrete b (e .bucket)) (change-or-none e)
+  act-quiet {s} {e} {v} {t} act none = by (ℕ-discrete b (e .bucket)) (one-or-none (isChange e))
     where
       by : Dec (b ≡ e .bucket) → Changes e ⊎ (changeOf e ≡ 0) → t .marks b ≡ s .marks b
       by (no other) change = act .there b other
@@ -45,12 +46,12 @@ module _ {n : ℕ} (b : ℕ) where
       walk-quiet rest (λ some. none (some-later _ _ _ some)) ∙ act-quiet act (λ change. none (some-here _ _ _ change))
 
 changes-test : (b : ℕ) (e : Entry) → ChangesIn b e ⊎ (ChangesIn b e → ⊥)
-changes-test b e = by (ℕ-discrete (e .bucket) b) (change-or-none e)
+changes-test b e = by (ℕ-discrete (e .bucket) b) (one-or-none (isChange e))
   where
     by : Dec (e .bucket ≡ b) → Changes e ⊎ (changeOf e ≡ 0) → ChangesIn b e ⊎ (ChangesIn b e → ⊥)
     by (no other) change = inr (λ is. other (is .0))
     by (yes is) (inl change) = inl (is, change)
-    by (yes is) (inr quiet) = inr (λ change. omega (arith, change-counts e (change .1)))
+    by (yes is) (inr quiet) = inr (λ change. omega (arith, one-yes (isChange e) (change .1)))
 
 -- ---- a swap
 
@@ -167,5 +168,5 @@ module _ (workers n opened : ℕ) {s u : View} {es : List Entry} {k : ℕ} (walk
     won-since positive won some = by (some .holds .1)
       where
         by : Commits (some .entry) ⊎ Closes (some .entry) → ⊥
-        by (inl commits) = counts commitOf some (rw (commits .0, commits .1)) (none-between positive won .0)
-        by (inr closes) = counts closeOf some (rw (closes .0, closes .1)) (none-between positive won .1)
+        by (inl commits) = counts commitOf some (one-yes (isCommit (some .entry)) commits) (none-between positive won .0)
+        by (inr closes) = counts closeOf some (one-yes (isClose (some .entry)) closes) (none-between positive won .1)

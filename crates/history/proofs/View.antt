@@ -15,9 +15,9 @@ use Rattle.turn.proofs.Effects.{Aimed, Moves, Swapper, Went}
 use Rattle.turn.proofs.Kept.{Idles}
 use Rattle.engine.specs.Board.{bucketOf}
 use Rattle.engine.specs.Calls.{recordIn, blank}
-use Rattle.history.specs.Trace.{Entry, changeOf}
+use Rattle.history.specs.Trace.{Entry}
 use Rattle.history.proofs.Lawful.{committed, closed, changed, quiet-effect}
-use Rattle.history.proofs.Counts.{commitOf, closeOf}
+use Rattle.history.proofs.Counts.{changeOf, commitOf, closeOf}
 
 -- the mark word of each bucket, the records, and the last ticket
 pub record View : Type 0 where

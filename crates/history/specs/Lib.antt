@@ -1,4 +1,5 @@
 pub mod History
 pub mod Moment
 pub mod Trace
+pub mod Counts
 pub mod Trials

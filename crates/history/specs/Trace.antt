@@ -1,7 +1,6 @@
 -- The trace: an entry for each turn done, in the order in which they were done, and what document 01 calls such a turn. Everything is
 -- told from the entry alone: whose turn it was, where, and what it reported. Quotations are document 01's.
 use Prim.Native.Nat.{ℕ, _+_}
-use mathlib.Core.Bool.{cond}
 use mathlib.Core.List.{List, [], _∷_, _++_}
 use mathlib.Core.Logic.{_⊎_}
 use mathlib.Core.Path.{_≡_}
@@ -10,7 +9,6 @@ use Rattle.turn.specs.Worker.{readPlace, claimPlace, ticketPlace, commitPlace, 
 use Rattle.turn.specs.declared.Action.the-variants.{Store, Won, Lost}
 use Rattle.turn.specs.declared.Progress.the-variants.{GoesOn}
 use Rattle.turn.specs.declared.Report.{Report}
-use Rattle.engine.specs.Calls.{changes, losses}
 
 -- a turn that was done: the worker, the bucket of its lot, the worker's record as it was before the turn, and the turn's report
 pub record Entry : Type 0 where
@@ -83,19 +81,3 @@ None P trace = Some P trace → ⊥
 unfoldable pub total : {A : Type 0} → (A → ℕ) → List A → ℕ
 total count [] = 0
 total count (e ∷ es) = count e + total count es
-
--- 1 for a lost swap
-abbrev pub lossOf : Entry → ℕ
-lossOf e = losses (e .report .action)
-
--- 1 for a change
-abbrev pub changeOf : Entry → ℕ
-changeOf e = changes (e .was .place) (e .report .action)
-
--- 1 for a full round
-abbrev pub fullOf : Entry → ℕ
-fullOf e = cond (e .report .full) 1 0
-
--- the lost swaps, counted from the reports
-abbrev pub lostSwaps : List Entry → ℕ
-lostSwaps trace = total lossOf trace

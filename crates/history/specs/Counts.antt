@@ -1,0 +1,102 @@
+-- What is counted in a trace. Each test answers what its type says, a word of Trace, so that no count goes by anything else.
+use Prim.Native.Nat.{ℕ}
+use mathlib.Core.Bool.{Bool, true, false, cond}
+use mathlib.Core.List.{List}
+use mathlib.Core.Logic.{_⊎_, inl, inr}
+use mathlib.Core.Path.{_≡_, refl, ap}
+use native.Mathlib.Omega.{arith}
+use lib.Dec.{eqb}
+use borrow.Author.Tests.{eqb-true, eqb-false}
+use Rattle.turn.specs.declared.Action.{Action}
+use Rattle.turn.specs.declared.Action.the-variants.{Read, Store, Won, Lost}
+use Rattle.turn.specs.Worker.{commitPlace, freePlace, closePlace}
+use Rattle.floor.specs.Told.{actionNumber}
+use Rattle.history.specs.Trace.{Entry, Loses, Changes, Commits, Closes, total}
+
+-- ---- tests
+
+-- whether two numbers are equal
+abbrev pub same : (m n : ℕ) → Dec (m ≡ n)
+same m n = by (eqb m n) refl
+  where
+    by : (t : Bool) → eqb m n ≡ t → Dec (m ≡ n)
+    by true is = yes (eqb-true m n is)
+    by false isnot = no (eqb-false m n isnot)
+
+-- whether an action is a store
+abbrev pub stores? : (a : Action) → Dec (a ≡ Store)
+stores? Read = no (λ is. omega (arith, ap actionNumber is))
+stores? Store = yes refl
+stores? Won = no (λ is. omega (arith, ap actionNumber is))
+stores? Lost = no (λ is. omega (arith, ap actionNumber is))
+
+-- whether it is a won swap
+abbrev pub wins? : (a : Action) → Dec (a ≡ Won)
+wins? Read = no (λ is. omega (arith, ap actionNumber is))
+wins? Store = no (λ is. omega (arith, ap actionNumber is))
+wins? Won = yes refl
+wins? Lost = no (λ is. omega (arith, ap actionNumber is))
+
+-- whether it is a lost swap
+abbrev pub loses? : (a : Action) → Dec (a ≡ Lost)
+loses? Read = no (λ is. omega (arith, ap actionNumber is))
+loses? Store = no (λ is. omega (arith, ap actionNumber is))
+loses? Won = no (λ is. omega (arith, ap actionNumber is))
+loses? Lost = yes refl
+
+-- whether both hold
+abbrev pub both? : {A B : Type 0} → Dec A → Dec B → Dec (A × B)
+both? a (no b) = no (λ is. b (is .1))
+both? (yes a) (yes b) = yes (a, b)
+both? (no a) (yes b) = no (λ is. a (is .0))
+
+-- whether one of them holds
+abbrev pub either? : {A B : Type 0} → Dec A → Dec B → Dec (A ⊎ B)
+either? (yes a) b = yes (inl a)
+either? (no a) (yes b) = yes (inr b)
+either? {A} {B} (no a) (no b) = no neither
+  where
+    neither : A ⊎ B → ⊥
+    neither (inl is) = a is
+    neither (inr is) = b is
+
+-- ---- of an entry
+
+-- whether an entry is a lost swap
+abbrev pub isLost : (e : Entry) → Dec (Loses e)
+isLost e = loses? (e .report .action)
+
+-- whether it is a change
+abbrev pub isChange : (e : Entry) → Dec (Changes e)
+isChange e = either? (wins? (e .report .action)) (both? (same (e .was .place) freePlace) (stores? (e .report .action)))
+
+-- whether it is a commit
+abbrev pub isCommit : (e : Entry) → Dec (Commits e)
+isCommit e = both? (same (e .was .place) commitPlace) (wins? (e .report .action))
+
+-- whether it is a close
+abbrev pub isClose : (e : Entry) → Dec (Closes e)
+isClose e = both? (same (e .was .place) closePlace) (wins? (e .report .action))
+
+-- ---- counts
+
+-- 1 where it is so, and 0 where it is not
+abbrev pub oneIf : {A : Type 0} → Dec A → ℕ
+oneIf (yes is) = 1
+oneIf (no isnot) = 0
+
+-- how many entries are such, each tested
+abbrev pub howMany : {P : Entry → Type 0} → ((e : Entry) → Dec (P e)) → List Entry → ℕ
+howMany test trace = total (λ e. oneIf (test e)) trace
+
+-- the lost swaps of a trace
+abbrev pub lostSwaps : List Entry → ℕ
+lostSwaps trace = howMany isLost trace
+
+-- its changes
+abbrev pub changesIn : List Entry → ℕ
+changesIn trace = howMany isChange trace
+
+-- its full rounds
+abbrev pub fullRounds : List Entry → ℕ
+fullRounds trace = total (λ e. cond (e .report .full) 1 0) trace
