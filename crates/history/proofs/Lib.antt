@@ -12,6 +12,7 @@ pub mod Lawful
 pub mod Library
 pub mod Minds
 pub mod Opened
+pub mod Openings
 pub mod Reached
 pub mod Remembers
 pub mod Runs

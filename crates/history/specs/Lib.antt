@@ -1,5 +1,7 @@
 pub mod History
-pub mod Moment
 pub mod Trace
 pub mod Counts
+pub mod Moment
+pub mod Demand
+pub mod Openings
 pub mod Trials

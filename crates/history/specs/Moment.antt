@@ -1,6 +1,6 @@
 -- The moment of a turn: the last turn of that worker that read its bucket's mark word whole or changed it. A trace is cut there, and at
 -- the turn itself, into what came before, the moment, what came between, the turn, and what came after.
-use mathlib.Core.List.{List}
+use mathlib.Core.List.{List, _∷_, _++_}
 use mathlib.Core.Logic.{_⊎_}
 use mathlib.Core.Path.{_≡_}
 use Rattle.history.specs.Trace.{Entry, Changes, ReadsWhole, Commits, Closes, Continues, Cut, None}
@@ -28,6 +28,23 @@ pub record OneCall (x : Entry) (between : List Entry) (y : Entry) : Type 0 where
   pub bucket : x .bucket ≡ y .bucket
   pub first : Continues x
   pub rest : None (λ e. Own y e × (Continues e → ⊥)) between
+
+-- a trace, cut at one of its turns
+pub record AtTurn (trace : List Entry) : Type 0 where
+  pub before : List Entry
+  pub turn : Entry
+  pub after : List Entry
+  pub cut : trace ≡ before ++ (turn ∷ after)
+
+-- a trace, cut at one of its turns and at that turn's moment
+pub record AtMoment (trace : List Entry) : Type 0 where
+  pub before : List Entry
+  pub moment : Entry
+  pub between : List Entry
+  pub turn : Entry
+  pub after : List Entry
+  pub cut : trace ≡ before ++ (moment ∷ (between ++ (turn ∷ after)))
+  pub is : IsMoment moment between turn
 
 -- what came before y can be cut at the moment of y, and that is of the same call
 abbrev pub HasMoment : List Entry → Entry → Type 0

@@ -1,0 +1,88 @@
+-- Openings among the calls. One that is refused leaves everything as it was. One that is accepted begins a new history: what is said of
+-- "the trace", of I and of R is then said of the calls since.
+use Prim.Native.Nat.{ℕ, _^_, _<_}
+use mathlib.Core.List.{List, [], _∷_, _++_}
+use mathlib.Core.Path.{_≡_}
+use lib.ListN.{length}
+use Rattle.engine.specs.declared.Plan.{Plan}
+use Rattle.engine.specs.Refusals.{openNumber}
+use Rattle.engine.specs.Calls.{planned, openCall}
+use Rattle.history.specs.Trace.{Entry}
+use Rattle.history.specs.Counts.{same}
+use Rattle.history.specs.History.{State, Opening, Call, opened, openedAs, after, entries, state, trace}
+use Rattle.history.specs.Demand.{DemandThree}
+
+-- whatever may be asked of the library, with any numbers
+pub data Asked : Type 0 where
+  -- a call on the floor that stands open
+  asks : Call → Asked
+  -- an opening of the same board and list, at a version of 32 bits
+  opens : (plan : Plan) → plan .version < 2 ^ 32 → Asked
+
+-- its number, if an opening is asked of a state
+abbrev pub reopenNumber : State → Plan → ℕ
+reopenNumber s plan = openNumber (planned plan) (s .board) (length (s .records))
+
+-- the state that it leaves, by the engine's own calls
+abbrev pub leaves : State → Asked → State
+leaves s (asks c) = after s c
+leaves s (opens plan fits) = openedAs (openCall (s .board) (s .floor) (s .records) (length (s .records)) plan)
+
+-- the turns that it does
+abbrev pub turnsOf : State → Asked → List Entry
+turnsOf s (asks c) = entries s c
+turnsOf s (opens plan fits) = []
+
+-- the state after all that was asked
+unfoldable pub leavesAll : State → List Asked → State
+leavesAll s [] = s
+leavesAll s (a ∷ more) = leavesAll (leaves s a) more
+
+-- all turns that were done
+unfoldable pub turnsOfAll : State → List Asked → List Entry
+turnsOfAll s [] = []
+turnsOfAll s (a ∷ more) = turnsOf s a ++ turnsOfAll (leaves s a) more
+
+-- ---- histories
+
+-- an opening that was accepted, and the calls since
+pub record History : Type 0 where
+  pub opening : Opening
+  pub calls : List Call
+
+-- where it stands
+abbrev pub standing : History → State
+standing h = state (h .opening) (h .calls)
+
+-- its turns
+abbrev pub turnsSince : History → List Entry
+turnsSince h = trace (h .opening) (h .calls)
+
+-- a history that has just begun
+abbrev pub begins : Opening → History
+begins o = record { opening = o; calls = [] }
+
+-- an opening that is accepted begins a new history, and one that is refused leaves the old one
+abbrev pub reopened : (h : History) (plan : Plan) → plan .version < 2 ^ 32 → Dec (reopenNumber (standing h) plan ≡ 0) → History
+reopened h plan fits (yes accepted) = begins (record { lent = standing h; plan = plan; accepted = accepted; version-fits = fits })
+reopened h plan fits (no refused) = h
+
+-- the history after what is asked of it
+abbrev pub goesOn : History → Asked → History
+goesOn h (asks c) = record { opening = h .opening; calls = h .calls ++ (c ∷ []) }
+goesOn h (opens plan fits) = reopened h plan fits (same (reopenNumber (standing h) plan) 0)
+
+-- after all that was asked: the last opening that was accepted, and the calls since
+unfoldable pub since : History → List Asked → History
+since h [] = h
+since h (a ∷ more) = since (goesOn h a) more
+
+-- what is demanded under any order of calls, openings among them
+pub record AnyOrder (o : Opening) (asked : List Asked) : Type 0 where
+  -- board, floor and records stand as the history since the last accepted opening leaves them
+  pub stands : leavesAll (opened o) asked ≡ standing (since (begins o) asked)
+  -- the last turns that were done are that history's
+  pub older : List Entry
+  pub turns : turnsOfAll (opened o) asked ≡ older ++ turnsSince (since (begins o) asked)
+  -- and demand 3 holds of it
+  pub demand : DemandThree (since (begins o) asked .opening) (since (begins o) asked .calls)
