@@ -27,7 +27,7 @@ pub const LIMIT: usize = 16384;
 pub const ROOM: usize = 37 * LIMIT / 13 + 26;
 
 // A call that a sheet asks for.
-struct Call {
+pub struct Call {
     pub worker: u8,
     pub kind: u8,
     pub lot: u64,
@@ -35,19 +35,19 @@ struct Call {
 }
 
 // Where the turns of a field stand in the sheet.
-struct Span {
+pub struct Span {
     pub start: usize,
     pub end: usize,
 }
 
-enum Field {
+pub enum Field {
     Opening(Plan),
     Calling(Call),
     Turning(Span),
 }
 
 // "A field is either read whole or refused with its place": whole with the place after it.
-enum Read {
+pub enum Read {
     Whole(Field, usize),
     Refused(usize),
 }

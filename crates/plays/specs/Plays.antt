@@ -1,0 +1,59 @@
+-- What a sheet plays is a history: every point of the play stands as the calls so far leave an opened board, and the listing is told
+-- from that history.
+use Prim.Native.Nat.{ℕ, suc, _≤_}
+use mathlib.Core.Path.{_≡_}
+use mathlib.Core.List.{List, [], _∷_, _++_}
+use lib.ListN.{length, take}
+use Rattle.turn.specs.Turn.{after}
+use Rattle.sheet.specs.Play.{endedLine}
+use Rattle.sheet.specs.Listing.{played}
+use Rattle.history.specs.Trace.{Entry}
+use Rattle.history.specs.Counts.{lostSwaps, changesIn, fullRounds}
+use Rattle.history.specs.History.{Opening, Call, workersOf, state, trace, mostLost}
+use Rattle.plays.specs.Points.{Point, Next, refused, nextOf, Steps, FloorAccepted, firstPoint, LastLine}
+
+-- the E lines of turns that are numbered from n on: one for each that ended its call, with its number, worker, kind and answer
+unfoldable pub endLines : ℕ → List Entry → List ℕ
+endLines n [] = []
+endLines n (e ∷ es) = endedLine n (e .worker) (e .was .kind) (e .report .progress) ++ endLines (suc n) es
+
+-- a point stands as an opening and these calls leave it
+pub record StandsAs (o : Opening) (calls : List Call) (p : Point) : Type 0 where
+  -- the board, the floor, and the first W of the program's 64 records
+  pub board : p .left .words ≡ state o calls .board
+  pub floor : p .left .handed .floor ≡ state o calls .floor
+  pub records : take (workersOf o) (p .left .handed .records) ≡ state o calls .records
+  -- the totals are the counts of the trace
+  pub turns : p .left .handed .totals .turns ≡ length (trace o calls)
+  pub changes : p .left .handed .totals .changes ≡ changesIn (trace o calls)
+  pub lost : p .left .handed .totals .lost ≡ lostSwaps (trace o calls)
+  pub full : p .left .handed .totals .full ≡ fullRounds (trace o calls)
+  -- each line so far is that of a turn that ended its call
+  pub lines : p .lines ≡ endLines 1 (trace o calls)
+
+-- a list is the beginning of another
+pub record StartsWith (part whole : List Call) : Type 0 where
+  pub rest : List Call
+  pub is : whole ≡ part ++ rest
+
+-- the play of a sheet on a board is the history of this opening and these calls
+pub record PlaysHistory {sheet board : List ℕ} (f : FloorAccepted sheet board) (o : Opening) (calls : List Call) : Type 0 where
+  -- the opening is of the sheet's own floor
+  pub plan : o .plan ≡ f .plan
+  -- at every point of the play: the calls so far are the first of these, and it stands as they leave it
+  pub points : (done : List Call) (p : Point) → Steps sheet (firstPoint f) done p → StartsWith done calls × StandsAs o done p
+  -- the lost swaps of the play so far are at most (W - 1)(2I + R), I and R counted from the calls so far
+  pub bound : (done : List Call) (p : Point) → Steps sheet (firstPoint f) done p → p .left .handed .totals .lost ≤ mostLost o done
+  -- nothing is ever refused by 3 or by 7
+  pub unbroken :
+      (done : List Call) (p : Point) (number offset : ℕ)
+      → Steps sheet (firstPoint f) done p
+      → nextOf sheet p ≡ refused number offset
+      → (number ≡ 3 → ⊥) × (number ≡ 7 → ⊥)
+  -- after the last of the calls the play stops
+  pub end : Point
+  pub reached : Steps sheet (firstPoint f) calls end
+  -- and the listing is the E lines of the trace, and then one line of the totals, or of the refusal that stopped it
+  pub line : List ℕ
+  pub last : LastLine sheet end line
+  pub listed : played sheet board ≡ after (state o calls .board) (endLines 1 (trace o calls) ++ line)
