@@ -24,7 +24,7 @@ use Rattle.history.proofs.States.{view}
 use Rattle.history.proofs.Opened.{opened-is, opened-listed, opened-idle, opened-bucket}
 
 -- a word that is a version alone has no mark
-no-mark : (v : ℕ) → v < 2 ^ 32 → (i : ℕ) → markOf v i ≡ 0
+pub no-mark : (v : ℕ) → v < 2 ^ 32 → (i : ℕ) → markOf v i ≡ 0
 unfolding markOf
 no-mark v fits = slots (λ (i : ℕ). markOf v i ≡ 0) (omega arith) (omega arith) (omega arith) (λ i past. mark-past v i past)
 

@@ -16,10 +16,13 @@ pub mod Openings
 pub mod Reached
 pub mod Remembers
 pub mod Runs
+pub mod SameSizes
 pub mod Starting
 pub mod States
 pub mod Sums
 pub mod Swaps
+pub mod Unbroken
+pub mod Unrefused
 pub mod Versions
 pub mod View
 pub mod Walking

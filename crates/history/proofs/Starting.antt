@@ -66,12 +66,12 @@ module _ (f : Floor) (lot : ℕ) where
 -- ---- any of them
 
 -- what it says that a start has no number of refusal
-record Startable (listed i : ℕ) (w : Worker) (late : Bool) : Type 0 where
+pub record Startable (listed i : ℕ) (w : Worker) (late : Bool) : Type 0 where
   within : i < listed
   was : w ≡ idle
-  early : late ≡ false
+  pub early : late ≡ false
 
-not-refused :
+pub not-refused :
     (f : Floor) (board : List ℕ) (listed i : ℕ) (w : Worker) (late : Bool)
     → startNumber f board listed i w late ≡ 0
     → Startable listed i w late

@@ -5,3 +5,4 @@ pub mod Moment
 pub mod Demand
 pub mod Openings
 pub mod Trials
+pub mod Unbroken

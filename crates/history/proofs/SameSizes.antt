@@ -1,0 +1,53 @@
+-- No call changes the numbers of workers and buckets: they stay the opening's. Assumes nothing.
+use Prim.Native.Nat.{ℕ}
+use mathlib.Core.Bool.{Bool}
+use mathlib.Core.List.{List, [], _∷_}
+use mathlib.Core.Path.{_≡_, refl, ap, _∙_}
+use lib.Dec.{eqb}
+use lib.ListN.{length}
+use Rattle.mark.proofs.Choices.{by-cases}
+use Rattle.turn.specs.declared.Worker.{Worker}
+use Rattle.engine.specs.declared.Floor.{Floor}
+use Rattle.engine.specs.declared.Started.{Started}
+use Rattle.engine.specs.Refusals.{startNumber}
+use Rattle.engine.specs.Calls.{planned, spending, startCall}
+use Rattle.history.specs.History.{State, Opening, Call, look, insert, remove, turn, run, show, count, opened, recordOf, seatOf}
+use Rattle.history.specs.History.{after, stateFrom, state}
+use Rattle.history.proofs.Opened.{opened-is}
+
+-- a number of the floor that is not the last ticket
+module _ (size : Floor → ℕ) (other : (f : Floor) (t : ℕ) → size (spending f t) ≡ size f) where
+  start-size :
+      (s : State) (i : ℕ) (late : Bool) (v : Worker) (g : Floor)
+      → size g ≡ size (s .floor)
+      → size (startCall (s .board) (seatOf s i) (recordOf s i) late v g .floor) ≡ size (s .floor)
+  unfolding startCall
+  start-size s i late v g same =
+      let number = startNumber (s .floor) (s .board) (length (s .records)) i (recordOf s i) late in
+      by-cases (λ (x : Started). size (x .floor) ≡ size (s .floor)) (eqb number 0) _ _ (λ is. same) (λ isnot. refl)
+
+  call-size : (s : State) (c : Call) → size (after s c .floor) ≡ size (s .floor)
+  call-size s (look i lot) = start-size s i _ _ _ refl
+  call-size s (insert i lot t) = start-size s i _ _ _ (other (s .floor) (t .number))
+  call-size s (remove i lot) = start-size s i _ _ _ refl
+  call-size s (turn i) = refl
+  call-size s (run turns) = refl
+  call-size s (show lot) = refl
+  call-size s count = refl
+
+  calls-size : (s : State) (calls : List Call) → size (stateFrom s calls .floor) ≡ size (s .floor)
+  unfolding stateFrom
+  calls-size s [] = refl
+  calls-size s (c ∷ calls) = calls-size (after s c) calls ∙ call-size s c
+
+  state-size : (o : Opening) (calls : List Call) → size (state o calls .floor) ≡ size (planned (o .plan))
+  state-size o calls = calls-size (opened o) calls ∙ ap (λ (s : State). size (s .floor)) (opened-is o)
+
+module _ (o : Opening) (calls : List Call) where
+  -- there are always as many workers as the opening's plan has
+  pub state-workers : state o calls .floor .workers ≡ o .plan .workers
+  state-workers = state-size (λ f. f .workers) (λ f t. refl) o calls
+
+  -- there are always as many buckets as the opening's plan has
+  pub state-buckets : state o calls .floor .buckets ≡ o .plan .buckets
+  state-buckets = state-size (λ f. f .buckets) (λ f t. refl) o calls

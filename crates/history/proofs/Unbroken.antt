@@ -1,0 +1,197 @@
+-- An opened board is unbroken, and every call keeps it so, accepted or refused. Assumes nothing.
+use Prim.Native.Nat.{ℕ, _^_, _<_}
+use mathlib.Core.Bool.{Bool, false}
+use mathlib.Core.List.{List, [], _∷_}
+use mathlib.Core.Logic.{inl, inr}
+use mathlib.Core.Path.{_≡_, refl}
+use native.Mathlib.Decide.{ℕ-discrete}
+use native.Mathlib.Omega.{arith}
+use lib.Dec.{eqb}
+use lib.ListN.{length, set, length-set, length-replicate, getD-replicate}
+use lib.Seq.{getD-set-same, getD-set-other}
+use borrow.Author.Tests.{eqb-true, eqb-false, leb-false}
+use Rattle.mark.specs.Word.{byte7}
+use Rattle.mark.proofs.Choices.{by-cases, passes}
+use Rattle.mark.proofs.WellFormed.{well-formed}
+use Rattle.turn.specs.declared.Worker.{Worker}
+use Rattle.turn.specs.Worker.{idle, lookFor, removeOf, broken}
+use Rattle.turn.specs.Bucket.{brokenBucket}
+use Rattle.turn.specs.Turn.{Turned, After}
+use Rattle.turn.proofs.Sound.{whole-not-broken}
+use Rattle.turn.proofs.Kept.{idle-kept, look-kept, insert-kept, remove-kept}
+use Rattle.engine.specs.declared.Floor.{Floor}
+use Rattle.engine.specs.declared.Started.{Started}
+use Rattle.engine.specs.Board.{emptyBucket}
+use Rattle.engine.specs.Refusals.{wrongSizes, openNumber, startNumber, eachNumber, runNumber}
+use Rattle.engine.specs.Calls.{Ran, planned, startCall, turned, noTurns, standing, blank, recordIn, goOn, runFrom, runCall}
+use Rattle.engine.proofs.Sizes.{right-listed}
+use Rattle.engine.proofs.Buckets.{length-opened}
+use Rattle.engine.proofs.Turns.{own}
+use Rattle.engine.proofs.Keeps.{Keeps, each-keeps, turn-keeps}
+use Rattle.history.specs.History.{State, Opening, Call, look, insert, remove, turn, run, show, count, opened, recordOf, seatOf, runOf}
+use Rattle.history.specs.History.{startedAs, turnedAs, ranAs, after, stateFrom, state}
+use Rattle.history.specs.Unbroken.{Unbroken}
+use Rattle.history.proofs.Opened.{opened-is, opened-right, opened-bucket}
+use Rattle.history.proofs.Beginning.{no-mark}
+use Rattle.history.proofs.Starting.{not-refused}
+use Rattle.history.proofs.Unrefused.{OneOf, one-not-none, each-numbers, run-numbers}
+
+-- ---- the opening
+
+-- an empty bucket at a version of 32 bits is not broken
+empty-unbroken : (v : ℕ) → v < 2 ^ 32 → brokenBucket (emptyBucket v) ≡ false
+unfolding byte7
+empty-unbroken v fits =
+    whole-not-broken (emptyBucket v)
+    (record { eight = refl; formed = well-formed v (λ i slot. omega (arith, no-mark v fits i)) (omega arith); spare = refl })
+
+-- an opening leaves nothing broken, whatever it was lent
+pub opened-unbroken : (o : Opening) → Unbroken (opened o)
+unfolding openNumber wrongSizes
+opened-unbroken o =
+    let n = length (o .lent .records) in
+    let sized : wrongSizes (planned (o .plan)) (o .lent .board) n ≡ false = passes _ 0 0 (o .accepted) .0 in
+    let all = right-listed (planned (o .plan)) (o .lent .board) n sized in
+    rw (opened-is o)
+    (record {
+      sized = rw (length-replicate n idle, length-opened (o .plan .version) (o .plan .buckets)) (rw (opened-right o .words) at sized);
+      records = λ i under. rw (getD-replicate n i idle blank (omega (arith, all))) idle-kept;
+      buckets = λ b under. rw (opened-bucket (o .plan .buckets) (o .plan .version) b under) (empty-unbroken _ (o .version-fits));
+    })
+
+-- ---- one record more
+
+module _ (s : State) (ok : Unbroken s) (i : ℕ) where
+  -- another record of worker i that is not broken leaves none broken; past the end of the list it is not put in
+  set-unbroken :
+      (v : Worker) → (i < s .floor .workers → broken v ≡ false) → (j : ℕ) → j < s .floor .workers → broken (recordIn (set (s .records) i v) j) ≡ false
+  set-unbroken v kept j under = by (ℕ-discrete j i)
+    where
+      long : j < length (s .records)
+      long = omega (arith, under, right-listed _ _ _ (ok .sized))
+
+      by : Dec (j ≡ i) → broken (recordIn (set (s .records) i v) j) ≡ false
+      by (yes is) = rw (is, getD-set-same (s .records) i v blank (omega (arith, is, long))) (kept (omega (arith, is, under)))
+      by (no other) = rw (getD-set-other (s .records) i j v blank other) (ok .records j under)
+
+  -- ---- a start
+
+  -- with another record of worker i and a floor of the same sizes a state stays unbroken
+  seated-unbroken :
+      (v : Worker) (g : Floor)
+      → g .workers ≡ s .floor .workers
+      → g .buckets ≡ s .floor .buckets
+      → (i < s .floor .workers → broken v ≡ false)
+      → Unbroken (record { board = s .board; floor = g; records = set (s .records) i v })
+  unfolding wrongSizes
+  seated-unbroken v g workers buckets kept =
+      record {
+        sized = rw (workers, buckets, length-set (s .records) i v) (ok .sized);
+        records = λ j under. set-unbroken v kept j (omega (arith, workers, under));
+        buckets = λ b under. ok .buckets b (omega (arith, buckets, under));
+      }
+
+  -- so a start keeps a state unbroken, accepted or refused
+  start-unbroken :
+      (late : Bool) (v : Worker) (g : Floor)
+      → g .workers ≡ s .floor .workers
+      → g .buckets ≡ s .floor .buckets
+      → (late ≡ false → broken v ≡ false)
+      → Unbroken (startedAs s i (startCall (s .board) (seatOf s i) (recordOf s i) late v g))
+  unfolding startCall
+  start-unbroken late v g workers buckets kept =
+      let number = startNumber (s .floor) (s .board) (length (s .records)) i (recordOf s i) late in
+      by-cases (λ (x : Started). Unbroken (startedAs s i x)) (eqb number 0) _ _
+      (λ is. seated-unbroken v g workers buckets (λ under. kept (not-refused _ _ _ i _ late (eqb-true number 0 is) .early)))
+      (λ isnot. seated-unbroken _ _ refl refl (ok .records i))
+
+  -- ---- a turn
+
+  -- what a turn leaves is unbroken, since it keeps the board and the record so
+  turned-unbroken : (b : ℕ) (x : After Turned) → Keeps (s .board) b (recordOf s i) x → Unbroken (turnedAs s i x)
+  unfolding wrongSizes
+  turned-unbroken b x keeps =
+      record {
+        sized = rw (keeps .long, length-set (s .records) i (x .handed .worker)) (ok .sized);
+        records = set-unbroken (x .handed .worker) (λ under. keeps .sound (ok .records i under));
+        buckets = λ b under. keeps .buckets b (ok .buckets b under);
+      }
+
+-- ---- a run
+
+-- how a run on floor f comes out: what it leaves is unbroken, and the number that stopped it is 2 or 6, or none did
+module _ (f : Floor) where
+  abbrev stands : After Ran → State
+  stands x = record { board = x .words; floor = f; records = x .handed .records }
+
+  record Passes (x : After Ran) : Type 0 where
+    left : Unbroken (stands x)
+    stop : OneOf (0 ∷ 2 ∷ 6 ∷ []) (x .handed .stop)
+
+  turns-pass : (turns : List ℕ) (x : After Ran) → Passes x → Passes (runFrom f turns x)
+  unfolding runFrom turned
+  turns-pass [] x ok = ok
+  turns-pass (i ∷ turns) x ok =
+      let w = recordIn (x .handed .records) i in
+      let number = eachNumber f (x .words) i w in
+      by-cases
+      (λ (y : After Turned). Keeps (x .words) (own f w) w y
+      → Passes (goOn (runFrom f turns) i (w .place) (y .words) (y .handed .worker) (y .handed .answer) (x .handed)))
+      (eqb number 0) _ _
+      (λ is keeps. turns-pass turns _ (record { left = turned-unbroken (stands x) (ok .left) i (own f w) _ keeps; stop = inl refl }))
+      (λ isnot keeps. record { left = ok .left; stop = each-numbers (stands x) (ok .left) i })
+      (each-keeps f (x .words) w i)
+
+module _ (s : State) (ok : Unbroken s) (turns : List ℕ) where
+  abbrev number : ℕ
+  number = runNumber (s .floor) (s .board) (length (s .records)) turns
+
+  turns-done : Passes (s .floor) (runFrom (s .floor) turns (standing (s .board) (s .records) noTurns 0))
+  turns-done = turns-pass (s .floor) turns _ (record { left = ok; stop = inl refl })
+
+  -- a run keeps a state unbroken, refused as a whole or not
+  run-unbroken : Unbroken (ranAs s (runOf s turns))
+  unfolding runCall
+  run-unbroken = by-cases (λ (x : After Ran). Unbroken (ranAs s x)) (eqb number 0) _ _ (λ is. turns-done .left) (λ isnot. ok)
+
+  -- a run is refused as a whole by 9, comes to its end, or stops at a turn that is refused by 2 or 6
+  pub run-stops-by : OneOf (9 ∷ 0 ∷ 2 ∷ 6 ∷ []) (runOf s turns .handed .stop)
+  unfolding runCall
+  run-stops-by =
+      by-cases (λ (x : After Ran). OneOf (9 ∷ 0 ∷ 2 ∷ 6 ∷ []) (x .handed .stop)) (eqb number 0) _ _
+      (λ is. inr (turns-done .stop)) (λ isnot. whole (eqb-false number 0 isnot) (run-numbers s ok turns))
+    where
+      whole : (number ≡ 0 → ⊥) → OneOf (0 ∷ 9 ∷ []) number → OneOf (9 ∷ 0 ∷ 2 ∷ 6 ∷ []) number
+      whole some (inl none) = absurd (some none)
+      whole some (inr (inl is)) = inl is
+
+  -- no run stops by 3, a broken record
+  pub never-run-3 : runOf s turns .handed .stop ≡ 3 → ⊥
+  never-run-3 = one-not-none (9 ∷ 0 ∷ 2 ∷ 6 ∷ []) _ 3 refl run-stops-by
+
+  -- no run stops by 7, a broken bucket
+  pub never-run-7 : runOf s turns .handed .stop ≡ 7 → ⊥
+  never-run-7 = one-not-none (9 ∷ 0 ∷ 2 ∷ 6 ∷ []) _ 7 refl run-stops-by
+
+-- ---- any call
+
+-- every call keeps a state unbroken, accepted or refused
+pub after-unbroken : (s : State) (c : Call) → Unbroken s → Unbroken (after s c)
+after-unbroken s (look i lot) ok = start-unbroken s ok i false (lookFor lot) (s .floor) refl refl (λ early. look-kept lot)
+after-unbroken s (insert i lot t) ok =
+    start-unbroken s ok i _ _ _ refl refl (λ early. insert-kept lot (t .number) (omega (arith, leb-false (t .number) (s .floor .last) early)))
+after-unbroken s (remove i lot) ok = start-unbroken s ok i false (removeOf lot) (s .floor) refl refl (λ early. remove-kept lot)
+after-unbroken s (turn i) ok = turned-unbroken s ok i _ _ (turn-keeps (s .board) (seatOf s i) (recordOf s i))
+after-unbroken s (run turns) ok = run-unbroken s ok turns
+after-unbroken s (show lot) ok = ok
+after-unbroken s count ok = ok
+
+-- calls one after another keep a state unbroken
+calls-unbroken : (s : State) (calls : List Call) → Unbroken s → Unbroken (stateFrom s calls)
+unfolding stateFrom
+calls-unbroken s [] ok = ok
+calls-unbroken s (c ∷ calls) ok = calls-unbroken (after s c) calls (after-unbroken s c ok)
+
+-- on an opened board nothing is ever broken, and the sizes stay right
+pub state-unbroken : (o : Opening) (calls : List Call) → Unbroken (state o calls)
+state-unbroken o calls = calls-unbroken (opened o) calls (opened-unbroken o)

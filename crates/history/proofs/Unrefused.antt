@@ -1,0 +1,137 @@
+-- Where nothing is broken and the sizes are right, no call is refused by 1, 3 or 7: which numbers of refusal are left, call by call.
+-- Assumes nothing.
+use Prim.Native.Nat.{ℕ, zero, suc, _<_}
+use mathlib.Core.Bool.{Bool, true, false, cond, _&&_, _||_, not, and-eq-true-iff}
+use mathlib.Core.List.{List, [], _∷_}
+use mathlib.Core.Logic.{_⊎_, inl, inr}
+use mathlib.Core.Path.{_≡_, refl, sym, _∙_}
+use native.Mathlib.Nat.{mod-lt}
+use native.Mathlib.Omega.{arith}
+use lib.Dec.{eqb, ltb}
+use lib.ListN.{length}
+use borrow.Author.Tests.{eqb-false, leb-false, not-true}
+use Rattle.mark.proofs.Choices.{by-cases}
+use Rattle.turn.specs.Worker.{isIdle}
+use Rattle.turn.specs.Bucket.{brokenBucket}
+use Rattle.turn.specs.Turn.{turnRefusal}
+use Rattle.engine.specs.declared.Floor.{Floor}
+use Rattle.engine.specs.Board.{bucketAt, anyBroken}
+use Rattle.engine.specs.Refusals.{wrongFloor, wrongSizes, noWorker, bucketFor}
+use Rattle.engine.specs.Refusals.{startNumber, eachNumber, turnNumber, runNumber, showNumber, countNumber}
+use Rattle.engine.proofs.Sizes.{right-sizes}
+use Rattle.history.specs.History.{State, recordOf}
+use Rattle.history.specs.Unbroken.{Unbroken}
+
+-- ---- one of some numbers
+
+-- n is one of these numbers
+abbrev pub OneOf : List ℕ → ℕ → Type 0
+OneOf [] n = ⊥
+OneOf (m ∷ ms) n = (n ≡ m) ⊎ OneOf ms n
+
+-- whether k is none of these numbers
+abbrev pub isNone : List ℕ → ℕ → Bool
+isNone [] k = true
+isNone (m ∷ ms) k = not (eqb k m) && isNone ms k
+
+-- a number that is one of these is no number that is none of them
+pub one-not-none : (ms : List ℕ) (n k : ℕ) → isNone ms k ≡ true → OneOf ms n → n ≡ k → ⊥
+one-not-none [] n k none one is = one
+one-not-none (m ∷ ms) n k none (inl here) is = eqb-false k m (not-true _ (and-eq-true-iff _ (isNone ms k) .0 none .0)) (sym is ∙ here)
+one-not-none (m ∷ ms) n k none (inr later) is = one-not-none ms n k (and-eq-true-iff (not (eqb k m)) _ .0 none .1) later is
+
+-- a choice between two numbers is one of some, if each is where it is chosen
+either-of : (ms : List ℕ) (t : Bool) (m n : ℕ) → OneOf ms m → (t ≡ false → OneOf ms n) → OneOf ms (cond t m n)
+either-of ms t m n one other = by-cases (OneOf ms) t m n (λ is. one) other
+
+-- ---- the numbers that are left
+
+-- floor and board fit together where the list is tested too
+floor-fits : (f : Floor) (board : List ℕ) (listed : ℕ) → wrongSizes f board listed ≡ false → wrongFloor f board ≡ false
+unfolding wrongSizes wrongFloor
+floor-fits f board listed is = first _ _ is
+  where
+    first : (t u : Bool) → (t || u) ≡ false → t ≡ false
+    first true u is = is
+    first false u is = refl
+
+-- no bucket is broken, one after another
+none-broken : (board : List ℕ) (n : ℕ) → ((b : ℕ) → b < n → brokenBucket (bucketAt board b) ≡ false) → anyBroken board n ≡ false
+unfolding anyBroken
+none-broken board zero each = refl
+none-broken board (suc n) each = rw (none-broken board n (λ b under. each b (omega arith))) (each n (omega arith))
+
+module _ (s : State) (ok : Unbroken s) where
+  -- the bucket of any lot is not broken
+  lot-unbroken : (lot : ℕ) → brokenBucket (bucketFor (s .floor) (s .board) lot) ≡ false
+  lot-unbroken lot = ok .buckets _ (mod-lt lot (right-sizes _ _ _ (ok .sized) .some-bucket))
+
+  -- a start is accepted, or refused by 2, 4 or 5
+  pub start-numbers :
+      (i : ℕ) (late : Bool)
+      → OneOf (0 ∷ 2 ∷ 4 ∷ 5 ∷ []) (startNumber (s .floor) (s .board) (length (s .records)) i (recordOf s i) late)
+  unfolding startNumber wrongSizes
+  start-numbers i late =
+      let w = recordOf s i in
+      let left : List ℕ = 0 ∷ 2 ∷ 4 ∷ 5 ∷ [] in
+      rw (ok .sized)
+      (either-of left (noWorker (s .floor) i) 2 _ (inr (inl refl))
+      (λ there. rw (ok .records i (leb-false _ _ there))
+      (either-of left (not (isIdle w)) 4 _ (inr (inr (inl refl)))
+      (λ idle. either-of left late 5 0 (inr (inr (inr (inl refl)))) (λ early. inl refl)))))
+
+  -- a turn of a run is done, or refused by 2 or 6
+  pub each-numbers : (i : ℕ) → OneOf (0 ∷ 2 ∷ 6 ∷ []) (eachNumber (s .floor) (s .board) i (recordOf s i))
+  unfolding eachNumber turnRefusal
+  each-numbers i =
+      let w = recordOf s i in
+      let left : List ℕ = 0 ∷ 2 ∷ 6 ∷ [] in
+      either-of left (noWorker (s .floor) i) 2 _ (inr (inl refl))
+      (λ there. rw (ok .records i (leb-false _ _ there))
+      (either-of left (isIdle w) 6 _ (inr (inr (inl refl))) (λ busy. rw (lot-unbroken (w .key)) (inl refl))))
+
+  -- a turn call is done, or refused by 2 or 6
+  pub turn-numbers : (i : ℕ) → OneOf (0 ∷ 2 ∷ 6 ∷ []) (turnNumber (s .floor) (s .board) (length (s .records)) i (recordOf s i))
+  unfolding turnNumber
+  turn-numbers i = rw (ok .sized) (each-numbers i)
+
+  -- a run is refused as a whole by 9 only
+  pub run-numbers : (turns : List ℕ) → OneOf (0 ∷ 9 ∷ []) (runNumber (s .floor) (s .board) (length (s .records)) turns)
+  unfolding runNumber wrongSizes
+  run-numbers turns = rw (ok .sized) (either-of (0 ∷ 9 ∷ []) (ltb 65535 (length turns)) 9 0 (inr (inl refl)) (λ few. inl refl))
+
+  -- a show is never refused
+  pub show-accepted : (lot : ℕ) → showNumber (s .floor) (s .board) lot ≡ 0
+  unfolding showNumber
+  show-accepted lot = rw (floor-fits _ _ _ (ok .sized), lot-unbroken lot)
+
+  -- a count is never refused
+  pub count-accepted : countNumber (s .floor) (s .board) ≡ 0
+  unfolding countNumber
+  count-accepted = rw (floor-fits _ _ _ (ok .sized), none-broken (s .board) (s .floor .buckets) (ok .buckets))
+
+  -- ---- 3 and 7
+
+  -- a start is never refused by 3, a broken record
+  pub never-start-3 : (i : ℕ) (late : Bool) → startNumber (s .floor) (s .board) (length (s .records)) i (recordOf s i) late ≡ 3 → ⊥
+  never-start-3 i late = one-not-none (0 ∷ 2 ∷ 4 ∷ 5 ∷ []) _ 3 refl (start-numbers i late)
+
+  -- a start is never refused by 7, a broken bucket
+  pub never-start-7 : (i : ℕ) (late : Bool) → startNumber (s .floor) (s .board) (length (s .records)) i (recordOf s i) late ≡ 7 → ⊥
+  never-start-7 i late = one-not-none (0 ∷ 2 ∷ 4 ∷ 5 ∷ []) _ 7 refl (start-numbers i late)
+
+  -- a turn is never refused by 3, a broken record
+  pub never-turn-3 : (i : ℕ) → turnNumber (s .floor) (s .board) (length (s .records)) i (recordOf s i) ≡ 3 → ⊥
+  never-turn-3 i = one-not-none (0 ∷ 2 ∷ 6 ∷ []) _ 3 refl (turn-numbers i)
+
+  -- a turn is never refused by 7, a broken bucket
+  pub never-turn-7 : (i : ℕ) → turnNumber (s .floor) (s .board) (length (s .records)) i (recordOf s i) ≡ 7 → ⊥
+  never-turn-7 i = one-not-none (0 ∷ 2 ∷ 6 ∷ []) _ 7 refl (turn-numbers i)
+
+  -- a show is never refused by 7, a broken bucket
+  pub never-show-7 : (lot : ℕ) → showNumber (s .floor) (s .board) lot ≡ 7 → ⊥
+  never-show-7 lot is = omega (arith, is, show-accepted lot)
+
+  -- a count is never refused by 7, a broken bucket
+  pub never-count-7 : countNumber (s .floor) (s .board) ≡ 7 → ⊥
+  never-count-7 is = omega (arith, is, count-accepted)
