@@ -13,7 +13,7 @@ use Rattle.history.specs.Counts.{same}
 use Rattle.history.specs.History.{State, Opening, opened, openedAs, stateFrom, traceFrom}
 use Rattle.history.specs.Openings.{Asked, asks, opens, reopenNumber, leaves, turnsOf, leavesAll, turnsOfAll}
 use Rattle.history.specs.Openings.{History, standing, turnsSince, begins, reopened, goesOn, since, AnyOrder}
-use Rattle.history.proofs.Histories.{stateFrom-append, traceFrom-append}
+use Rattle.history.proofs.Histories.{stateFrom-then, traceFrom-then}
 use Rattle.history.proofs.DemandThree.{demand-three}
 
 -- an opening that is refused leaves everything as it was
@@ -32,12 +32,12 @@ module _ (h : History) (before : List Entry) where
   unfolding stateFrom traceFrom
   goes-on (asks c) =
       record {
-        stands = sym (stateFrom-append (opened (h .opening)) (h .calls) (c ∷ []));
+        stands = sym (stateFrom-then (opened (h .opening)) (h .calls) c);
         older = before;
         turns-are =
             append-assoc before (turnsSince h) _
             ∙ ap (λ (es : List Entry). before ++ es)
-            (ap (λ (es : List Entry). turnsSince h ++ es) (sym (append-nil _)) ∙ sym (traceFrom-append (opened (h .opening)) (h .calls) (c ∷ [])));
+            (sym (traceFrom-then (opened (h .opening)) (h .calls) c));
       }
   goes-on (opens plan fits) = by (same (reopenNumber (standing h) plan) 0)
     where

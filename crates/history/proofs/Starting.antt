@@ -67,8 +67,8 @@ module _ (f : Floor) (lot : ℕ) where
 
 -- what it says that a start has no number of refusal
 pub record Startable (listed i : ℕ) (w : Worker) (late : Bool) : Type 0 where
-  within : i < listed
-  was : w ≡ idle
+  pub within : i < listed
+  pub was : w ≡ idle
   pub early : late ≡ false
 
 pub not-refused :

@@ -20,14 +20,9 @@ use Rattle.engine.specs.Refusals.{wrongFloor, wrongSizes, noWorker, bucketFor}
 use Rattle.engine.specs.Refusals.{startNumber, eachNumber, turnNumber, runNumber, showNumber, countNumber}
 use Rattle.engine.proofs.Sizes.{right-sizes}
 use Rattle.history.specs.History.{State, recordOf}
-use Rattle.history.specs.Unbroken.{Unbroken}
+use Rattle.history.specs.Unbroken.{Unbroken, OneOf}
 
 -- ---- one of some numbers
-
--- n is one of these numbers
-abbrev pub OneOf : List ℕ → ℕ → Type 0
-OneOf [] n = ⊥
-OneOf (m ∷ ms) n = (n ≡ m) ⊎ OneOf ms n
 
 -- whether k is none of these numbers
 abbrev pub isNone : List ℕ → ℕ → Bool

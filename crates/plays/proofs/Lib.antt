@@ -1,2 +1,9 @@
-pub mod Readings
+pub mod Plays
+pub mod Points
+pub mod Turning
+pub mod Calling
+pub mod Standing
+pub mod Asked
+pub mod Lines
 pub mod Ending
+pub mod Readings

@@ -9,6 +9,7 @@ use Rattle.sheet.specs.Play.{endedLine}
 use Rattle.sheet.specs.Listing.{played}
 use Rattle.history.specs.Trace.{Entry}
 use Rattle.history.specs.Counts.{lostSwaps, changesIn, fullRounds}
+use Rattle.history.specs.Unbroken.{OneOf}
 use Rattle.history.specs.History.{Opening, Call, workersOf, state, trace, mostLost}
 use Rattle.plays.specs.Points.{Point, Next, refused, nextOf, Steps, FloorAccepted, firstPoint, LastLine}
 
@@ -31,6 +32,10 @@ pub record StandsAs (o : Opening) (calls : List Call) (p : Point) : Type 0 where
   -- each line so far is that of a turn that ended its call
   pub lines : p .lines ≡ endLines 1 (trace o calls)
 
+-- the numbers by which a sheet is refused once its floor is accepted
+abbrev pub refusals : List ℕ
+refusals = 2 ∷ 4 ∷ 5 ∷ 6 ∷ 8 ∷ []
+
 -- a list is the beginning of another
 pub record StartsWith (part whole : List Call) : Type 0 where
   pub rest : List Call
@@ -44,12 +49,12 @@ pub record PlaysHistory {sheet board : List ℕ} (f : FloorAccepted sheet board)
   pub points : (done : List Call) (p : Point) → Steps sheet (firstPoint f) done p → StartsWith done calls × StandsAs o done p
   -- the lost swaps of the play so far are at most (W - 1)(2I + R), I and R counted from the calls so far
   pub bound : (done : List Call) (p : Point) → Steps sheet (firstPoint f) done p → p .left .handed .totals .lost ≤ mostLost o done
-  -- nothing is ever refused by 3 or by 7
+  -- what is refused is refused by 2, 4, 5, 6 or 8, and so by 3 and by 7 never
   pub unbroken :
       (done : List Call) (p : Point) (number offset : ℕ)
       → Steps sheet (firstPoint f) done p
       → nextOf sheet p ≡ refused number offset
-      → (number ≡ 3 → ⊥) × (number ≡ 7 → ⊥)
+      → OneOf refusals number
   -- after the last of the calls the play stops
   pub end : Point
   pub reached : Steps sheet (firstPoint f) calls end

@@ -1,0 +1,22 @@
+-- The E lines of a trace with one turn more. Assumes nothing.
+use Prim.Native.Nat.{ℕ, suc, _+_}
+use mathlib.Core.Path.{_≡_, sym, ap, _∙_}
+use mathlib.Core.List.{List, [], _∷_, _++_, append-assoc, append-nil}
+use native.Mathlib.Omega.{arith}
+use lib.ListN.{length}
+use Rattle.sheet.specs.Play.{endedLine}
+use Rattle.history.specs.Trace.{Entry}
+use Rattle.plays.specs.Plays.{endLines}
+
+-- the line of a turn, if it ended its call
+abbrev pub lineOf : ℕ → Entry → List ℕ
+lineOf n e = endedLine n (e .worker) (e .was .kind) (e .report .progress)
+
+-- the line of a turn more comes last
+pub end-lines-then : (n : ℕ) (es : List Entry) (e : Entry) → endLines n (es ++ (e ∷ [])) ≡ endLines n es ++ lineOf (length es + n) e
+unfolding endLines
+end-lines-then n [] e = let same : n ≡ 0 + n = omega arith in append-nil (lineOf n e) ∙ ap (λ (m : ℕ). lineOf m e) same
+end-lines-then n (d ∷ es) e =
+    let more : length es + suc n ≡ suc (length es) + n = omega arith in
+    ap (λ (l : List ℕ). lineOf n d ++ l) (end-lines-then (suc n) es e ∙ ap (λ (m : ℕ). endLines (suc n) es ++ lineOf m e) more)
+    ∙ sym (append-assoc (lineOf n d) _ _)

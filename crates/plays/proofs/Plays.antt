@@ -1,0 +1,202 @@
+-- What a sheet plays is a history. Assumes nothing.
+use Prim.Native.Nat.{ℕ, zero, suc, _+_, _≤_}
+use mathlib.Core.Bool.{Bool, true, false}
+use mathlib.Core.Path.{_≡_, refl, sym, ap, ap₂, subst, _∙_}
+use mathlib.Core.List.{List, [], _∷_, _++_, append-assoc}
+use native.Mathlib.Omega.{arith}
+use lib.Dec.{eqb}
+use lib.ListN.{length, replicate, take, length-replicate}
+use borrow.Author.Tests.{le-ltb, eqb-true}
+use Rattle.mark.proofs.Choices.{by-cases, passes}
+use Rattle.turn.specs.declared.Worker.{Worker}
+use Rattle.turn.specs.Worker.{idle}
+use Rattle.turn.specs.Turn.{After, after}
+use Rattle.engine.specs.declared.Plan.{Plan}
+use Rattle.engine.specs.Board.{openedBoard}
+use Rattle.engine.specs.Refusals.{wrongSizes, openNumber}
+use Rattle.engine.specs.Calls.{Opened, planned, openCall, noTurns}
+use Rattle.engine.proofs.Sizes.{right-sizes}
+use Rattle.sheet.specs.Play.{Outcome, outcome, deskOf, shutDesk, shutFloor, openField, turnsDone}
+use Rattle.sheet.specs.Listing.{fieldsFrom, played}
+use Rattle.sheet.proofs.Fielding.{whole-next}
+use Rattle.history.specs.Trace.{Entry, total}
+use Rattle.history.specs.History.{State, Opening, Call, opened, state, trace, stateFrom, traceFrom}
+use Rattle.history.proofs.Opened.{opened-is}
+use Rattle.history.proofs.DemandThree.{demand-three}
+use Rattle.plays.specs.Points.{Point, Next, goes, over, refused, nextOf, Steps, stays, steps, Bytes, FloorAccepted, firstPoint, LastLine, totals, refusal}
+use Rattle.plays.specs.Plays.{endLines, StartsWith, PlaysHistory}
+use Rattle.plays.proofs.Readings.{floor-version}
+use Rattle.plays.proofs.Ending.{Finishes, comesTo, finish}
+use Rattle.plays.proofs.Standing.{Stands}
+use Rattle.plays.proofs.Points.{Fine, fine, points-stand}
+
+-- ---- one play
+
+module _ (sheet : List ℕ) where
+  -- where a play stops there is no step
+  stuck : (p : Point) (line : List ℕ) (cs : List Call) (q : Point) → LastLine sheet p line → nextOf sheet p ≡ goes cs q → ⊥
+  stuck p line cs q (totals end) step = let e : over ≡ goes cs q = sym end ∙ step in absurd (let z : _≡_ {A = ℕ} 0 1 = cc in omega arith)
+  stuck p line cs q (refusal number offset end) step =
+      let e : refused number offset ≡ goes cs q = sym end ∙ step in
+      absurd (let z : _≡_ {A = ℕ} 0 1 = cc in omega arith)
+
+  -- a step leads to one point, by one list of calls
+  same-calls : (p : Point) (cs ds : List Call) (q r : Point) → nextOf sheet p ≡ goes cs q → nextOf sheet p ≡ goes ds r → cs ≡ ds
+  same-calls p cs ds q r one two = let e : goes cs q ≡ goes ds r = sym one ∙ two in cc
+
+  same-point : (p : Point) (cs ds : List Call) (q r : Point) → nextOf sheet p ≡ goes cs q → nextOf sheet p ≡ goes ds r → q ≡ r
+  same-point p cs ds q r one two = let e : goes cs q ≡ goes ds r = sym one ∙ two in cc
+
+  -- so every point is on the way to where the play stops
+  one-play :
+      {p q r : Point} {cs ds : List Call} {line : List ℕ}
+      → Steps sheet p cs q
+      → Steps sheet p ds r
+      → LastLine sheet r line
+      → StartsWith cs ds
+  one-play {ds = ds} stays whole last = record { rest = ds; is = refl }
+  one-play {p = p} {line = line} (steps {q = m} {cs = as₁} step part) stays last = absurd (stuck p line as₁ m last step)
+  one-play {p = p} {r = r} {line = line} (steps {cs = as₁} {ds = bs₁} step part) (steps {ds = bs₂} then whole) last =
+      let rest =
+      one-play {r = r} {line = line} part (subst (λ (x : Point). Steps sheet x bs₂ r) (sym (same-point p _ _ _ _ step then)) whole) last in
+      record {
+        rest = rest .rest;
+        is =
+            ap₂ (λ (x y : List Call). x ++ y) (sym (same-calls p _ _ _ _ step then)) (rest .is)
+            ∙ sym (append-assoc as₁ bs₁ (rest .rest));
+      }
+
+-- ---- the opening
+
+-- the first of so many idle records
+take-idle : (n m : ℕ) → n ≤ m → take n (replicate m idle) ≡ replicate n idle
+take-idle zero m less = refl
+take-idle (suc n) zero less = absurd (omega arith)
+take-idle (suc n) (suc m) less = ap (λ (ws : List Worker). idle ∷ ws) (take-idle n m (omega arith))
+
+-- a floor stops with the number of its opening
+open-stop : (plan : Plan) (board : List ℕ) → openField plan (after board shutDesk) .stop ≡ openNumber (planned plan) board (plan .workers)
+unfolding openField openCall
+open-stop plan board =
+    let n = openNumber (planned plan) board (plan .workers) in
+    by-cases (λ (x : After Opened). x .handed .refusal ≡ n) (eqb n 0) _ _ (λ is. sym (eqb-true n 0 is)) (λ isnot. refl)
+
+-- one that is accepted leaves empty buckets, and idle records
+open-is :
+    (plan : Plan) (board : List ℕ)
+    → openNumber (planned plan) board (plan .workers) ≡ 0
+    → openField plan (after board shutDesk)
+    ≡ outcome [] (after (openedBoard (plan .buckets) (plan .version)) (deskOf (planned plan) (replicate 64 idle) noTurns)) 0
+unfolding openField openCall
+open-is plan board none = rw none
+
+module _ {sheet board : List ℕ} (f : FloorAccepted sheet board) (bytes : Bytes sheet) where
+  none : openNumber (planned (f .plan)) board (f .plan .workers) ≡ 0
+  none = sym (open-stop (f .plan) board) ∙ f .accepted
+
+  -- the opening that the sheet's floor asks for, with a record for each worker
+  abbrev opening : Opening
+  opening =
+      record {
+        lent = record { board = board; floor = shutFloor; records = replicate (f .plan .workers) idle };
+        plan = f .plan;
+        accepted = rw (length-replicate (f .plan .workers) idle) none;
+        version-fits = floor-version sheet bytes (f .plan) (f .next) (f .read);
+      }
+
+  few : f .plan .workers ≤ 64
+  unfolding openNumber
+  few = right-sizes (planned (f .plan)) board (f .plan .workers) (passes (wrongSizes (planned (f .plan)) board _) 0 0 none .0) .workers
+
+  abbrev first : Outcome
+  first = outcome [] (after (openedBoard (f .plan .buckets) (f .plan .version)) (deskOf (planned (f .plan)) (replicate 64 idle) noTurns)) 0
+
+  first-is : openField (f .plan) (after board shutDesk) ≡ first
+  first-is = open-is (f .plan) board none
+
+  first-state :
+      state opening []
+      ≡ record {
+        board = openedBoard (f .plan .buckets) (f .plan .version);
+        floor = planned (f .plan);
+        records = replicate (f .plan .workers) idle;
+      }
+  unfolding stateFrom
+  first-state =
+      let laid : ℕ → State =
+      λ n. record { board = openedBoard (f .plan .buckets) (f .plan .version); floor = planned (f .plan); records = replicate n idle } in
+      opened-is opening ∙ ap laid (length-replicate (f .plan .workers) idle)
+
+  -- what is counted in no turns
+  nothing : (count : Entry → ℕ) → 0 ≡ total count (trace opening [])
+  unfolding traceFrom total
+  nothing count = refl
+
+  no-turn : (0 ≡ length (trace opening [])) × ([] ≡ endLines 1 (trace opening []))
+  unfolding traceFrom endLines
+  no-turn = (refl, refl)
+
+  -- the first point stands as it leaves the board
+  first-stands : Stands opening [] (firstPoint f)
+  first-stands =
+      record {
+        stands =
+            record {
+              board = rw (first-is, first-state);
+              floor = rw (first-is, first-state);
+              records = rw (first-is, first-state) (take-idle (f .plan .workers) 64 few);
+              turns = rw first-is (no-turn .0);
+              changes = rw first-is (nothing _);
+              lost = rw first-is (nothing _);
+              full = rw first-is (nothing _);
+              lines = rw first-is (no-turn .1);
+            };
+        long = rw first-is (length-replicate 64 idle);
+      }
+
+  -- ---- the play
+
+  within : (4 ≤ f .next) × (f .next ≤ length sheet)
+  within = whole-next sheet 0 _ (f .next) (f .read)
+
+  finishes : Finishes sheet (firstPoint f) (comesTo sheet (length sheet) (firstPoint f))
+  finishes = let n = within in finish sheet (length sheet) 0 (f .next) [] _ _ (omega arith) (n .1) (omega arith)
+
+  play-comes : played sheet board ≡ comesTo sheet (length sheet) (firstPoint f)
+  unfolding played fieldsFrom turnsDone
+  play-comes = rw (le-ltb 16384 (length sheet) (f .short), f .read, f .accepted)
+
+  -- what the calls leave at the points that are reached
+  at-point : (done : List Call) (p : Point) → Steps sheet (firstPoint f) done p → Stands opening done p
+  at-point done p reached = points-stand opening sheet bytes reached [] first-stands
+
+  -- the calls of the play
+  abbrev calls : List Call
+  calls = finishes .calls
+
+  -- the play of a sheet of bytes whose floor is accepted is the history of an opening and calls
+  pub plays-history : (o : Opening) × ((calls : List Call) × PlaysHistory f o calls)
+  plays-history =
+      let there = at-point calls (finishes .end) (finishes .reached) .stands in
+      (
+        opening,
+        (
+          calls,
+          record {
+            plan = refl;
+            points = λ done p reached. (one-play sheet reached (finishes .reached) (finishes .last), at-point done p reached .stands);
+            bound = λ done p reached. rw (at-point done p reached .stands .lost) (demand-three opening done .bound);
+            unbroken =
+                λ done p number offset reached stop.
+                subst (Fine opening sheet bytes done) stop (fine opening sheet bytes done p (at-point done p reached));
+            end = finishes .end;
+            reached = finishes .reached;
+            line = finishes .line;
+            last = finishes .last;
+            listed =
+                play-comes
+                ∙ finishes .listed
+                ∙ ap₂ (λ (words lines : List ℕ). after words (lines ++ finishes .line)) (there .board) (there .lines);
+          },
+        ),
+      )
