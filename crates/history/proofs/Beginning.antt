@@ -14,7 +14,7 @@ use Rattle.turn.proofs.Lands.{elsewhere}
 use Rattle.engine.specs.Calls.{blank}
 use Rattle.history.specs.Trace.{total}
 use Rattle.history.specs.History.{State, Opening, opened}
-use Rattle.history.proofs.Sums.{sum-none}
+use Rattle.history.proofs.Sums.{total-none}
 use Rattle.history.proofs.View.{worker, inserting, left, Aware}
 use Rattle.history.proofs.Held.{Holds, Kept}
 use Rattle.history.proofs.Versions.{Tells}
@@ -70,7 +70,7 @@ module _ (o : Opening) where
 
   -- no record counts for anything
   counts-none : (f : Worker → ℕ) → f idle ≡ 0 → total f (opened o .records) ≡ 0
-  counts-none f none = rw (opened-is o) (sum-none f idle none (length (o .lent .records)))
+  counts-none f none = rw (opened-is o) (total-none f idle none (length (o .lent .records)))
 
   -- an opened board is good, with nothing behind it
   pub opened-good : Good (o .plan .workers) (o .plan .buckets) (o .plan .version) (view (opened o)) [] 0

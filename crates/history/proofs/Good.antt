@@ -10,7 +10,7 @@ use Rattle.turn.specs.declared.Worker.{Worker}
 use Rattle.turn.specs.Effects.{Effect}
 use Rattle.history.specs.Trace.{Entry, total}
 use Rattle.history.specs.Counts.{lostSwaps, changesIn}
-use Rattle.history.proofs.Sums.{sum-set, sum-others}
+use Rattle.history.proofs.Sums.{total-set, total-others}
 use Rattle.history.proofs.View.{View, worker, inserting, left, Starts, Acts, quiet-marks, Walk, stays, starts, acts}
 use Rattle.history.proofs.Lawful.{changed, committed, changed-le}
 use Rattle.history.proofs.Counts.{lossOf, changeOf, commitOf, lost-quiet, onto}
@@ -45,7 +45,7 @@ module _ (workers n version : ℕ) where
     -- what the turn pays comes from what the worker's record counted for
     spends : (f : Worker → ℕ) (c : ℕ) → c + f v ≤ f w → c + total f (t .records) ≤ total f (s .records)
     spends f c pays =
-        let more = sum-set f f c 0 v (λ w. omega arith) (s .records) (e .worker) (act .within) (omega (arith, pays)) in
+        let more = total-set f f c 0 v (λ w. omega arith) (s .records) (e .worker) (act .within) (omega (arith, pays)) in
         rw (act .records) (omega (arith, more))
 
     pays : Pays w effect v
@@ -61,7 +61,7 @@ module _ (workers n version : ℕ) where
         (omega (
           arith,
           good .charge,
-          sum-set (stale n (s .marks)) (stale n (t .marks)) (lossOf e) 0 v
+          total-set (stale n (s .marks)) (stale n (t .marks)) (lossOf e) 0 v
               (stale-same n (s .marks) (t .marks) (quiet-marks act quiet)) (s .records) (e .worker) (act .within)
               (omega (arith, quiet-pays n s e v t (good .kept) act quiet (moves-minds _ _ _ _ (act .moves)))),
         ))
@@ -76,7 +76,7 @@ module _ (workers n version : ℕ) where
           good .charge,
           lost-quiet e loud,
           more,
-          sum-others (stale n (s .marks)) (stale n (t .marks)) v (λ w. omega (arith, stale-le n (t .marks) w))
+          total-others (stale n (s .marks)) (stale n (t .marks)) v (λ w. omega (arith, stale-le n (t .marks) w))
               (change-fresh n s e v t (good .kept) act loud (moves-minds _ _ _ _ (act .moves))) (s .records) (e .worker) some,
         ))
 
@@ -98,7 +98,7 @@ module _ (workers n version : ℕ) where
     -- what the records count for grows by no more than what the new one counts for
     brings : (f g : Worker → ℕ) → ((w : Worker) → g w ≤ f w) → total g (t .records) ≤ total f (s .records) + g v
     brings f g less =
-        let more = sum-set f g 0 (g v) v less (s .records) (start .who) (start .within) (omega arith) in
+        let more = total-set f g 0 (g v) v less (s .records) (start .who) (start .within) (omega arith) in
         rw (start .records) (omega (arith, more))
 
     -- so does a start, which brings its call's changes

@@ -1,28 +1,34 @@
-pub mod Acting
-pub mod Beginning
-pub mod Charges
-pub mod Counts
-pub mod Cuts
+-- the statements
 pub mod DemandThree
-pub mod Found
-pub mod Good
-pub mod Held
-pub mod Histories
-pub mod Lawful
-pub mod Library
-pub mod Minds
-pub mod Opened
 pub mod Openings
-pub mod Reached
-pub mod Remembers
-pub mod Runs
-pub mod SameSizes
-pub mod Starting
-pub mod States
-pub mod Sums
-pub mod Swaps
 pub mod Unbroken
 pub mod Unrefused
-pub mod Versions
+pub mod SameSizes
+pub mod Reached
+-- what a history is
+pub mod Library
+pub mod Opened
+pub mod Runs
+pub mod Histories
+-- a history as a walk, seen through the mark words, the records and the last ticket
 pub mod View
+pub mod States
+pub mod Starting
+pub mod Acting
 pub mod Walking
+-- what holds along every walk
+pub mod Good
+pub mod Held
+pub mod Versions
+pub mod Charges
+pub mod Beginning
+-- a worker's word, and its moment
+pub mod Minds
+pub mod Remembers
+pub mod Swaps
+-- tools
+pub mod Lawful
+pub mod Counts
+pub mod Sums
+pub mod Cuts
+pub mod Found

@@ -44,15 +44,15 @@ module _ (f : Floor) (lot : ℕ) where
         fits = λ is. is;
       }
 
-  -- that of a look
+  -- the start of a look
   pub look-fresh : Fresh f false (lookFor lot) f
   look-fresh = unticketed 1 2 (omega arith) (λ aware. aware .other refl) refl
 
-  -- of a remove
+  -- the start of a remove
   pub remove-fresh : Fresh f false (removeOf lot) f
   remove-fresh = unticketed 3 1 (omega arith) (λ aware. omega (arith, aware .from)) refl
 
-  -- of an insert
+  -- the start of an insert
   pub insert-fresh : (t : ℕ) → t < 2 ^ 32 → Fresh f (spent f t) (insertOf lot t) (spending f t)
   insert-fresh t few =
       record {

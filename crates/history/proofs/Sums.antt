@@ -9,19 +9,19 @@ use Rattle.engine.specs.Calls.{recordIn}
 use Rattle.history.specs.Trace.{total}
 
 -- no number is larger
-sum-le : (f g : Worker → ℕ) → ((w : Worker) → g w ≤ f w) → (ws : List Worker) → total g ws ≤ total f ws
+total-le : (f g : Worker → ℕ) → ((w : Worker) → g w ≤ f w) → (ws : List Worker) → total g ws ≤ total f ws
 unfolding total
-sum-le f g less [] = omega arith
-sum-le f g less (w ∷ ws) = omega (arith, less w, sum-le f g less ws)
+total-le f g less [] = omega arith
+total-le f g less (w ∷ ws) = omega (arith, less w, total-le f g less ws)
 
 -- no number is larger by more than one
-sum-ones : (f g : Worker → ℕ) → ((w : Worker) → g w ≤ f w + 1) → (ws : List Worker) → total g ws ≤ total f ws + length ws
+total-grows : (f g : Worker → ℕ) → ((w : Worker) → g w ≤ f w + 1) → (ws : List Worker) → total g ws ≤ total f ws + length ws
 unfolding total
-sum-ones f g less [] = omega arith
-sum-ones f g less (w ∷ ws) = omega (arith, less w, sum-ones f g less ws)
+total-grows f g less [] = omega arith
+total-grows f g less (w ∷ ws) = omega (arith, less w, total-grows f g less ws)
 
 -- one record becomes v, with d more at most and c to pay; the others' numbers do not grow
-pub sum-set :
+pub total-set :
     (f g : Worker → ℕ) (c d : ℕ) (v : Worker)
     → ((w : Worker) → g w ≤ f w)
     → (ws : List Worker) (i : ℕ)
@@ -29,12 +29,12 @@ pub sum-set :
     → c + g v ≤ f (recordIn ws i) + d
     → c + total g (set ws i v) ≤ total f ws + d
 unfolding total
-sum-set f g c d v less [] i within pays = absurd (omega arith)
-sum-set f g c d v less (w ∷ ws) zero within pays = omega (arith, pays, sum-le f g less ws)
-sum-set f g c d v less (w ∷ ws) (suc i) within pays = omega (arith, less w, sum-set f g c d v less ws i (omega arith) pays)
+total-set f g c d v less [] i within pays = absurd (omega arith)
+total-set f g c d v less (w ∷ ws) zero within pays = omega (arith, pays, total-le f g less ws)
+total-set f g c d v less (w ∷ ws) (suc i) within pays = omega (arith, less w, total-set f g c d v less ws i (omega arith) pays)
 
 -- one record's number becomes 0; each of the others' grows by one at most
-pub sum-others :
+pub total-others :
     (f g : Worker → ℕ) (v : Worker)
     → ((w : Worker) → g w ≤ f w + 1)
     → g v ≡ 0
@@ -42,12 +42,12 @@ pub sum-others :
     → i < length ws
     → total g (set ws i v) + 1 ≤ total f ws + length ws
 unfolding total
-sum-others f g v less none [] i within = absurd (omega arith)
-sum-others f g v less none (w ∷ ws) zero within = omega (arith, sum-ones f g less ws)
-sum-others f g v less none (w ∷ ws) (suc i) within = omega (arith, less w, sum-others f g v less none ws i (omega arith))
+total-others f g v less none [] i within = absurd (omega arith)
+total-others f g v less none (w ∷ ws) zero within = omega (arith, total-grows f g less ws)
+total-others f g v less none (w ∷ ws) (suc i) within = omega (arith, less w, total-others f g v less none ws i (omega arith))
 
 -- records that all count for nothing
-pub sum-none : (f : Worker → ℕ) (w : Worker) → f w ≡ 0 → (n : ℕ) → total f (replicate n w) ≡ 0
+pub total-none : (f : Worker → ℕ) (w : Worker) → f w ≡ 0 → (n : ℕ) → total f (replicate n w) ≡ 0
 unfolding total
-sum-none f w none zero = refl
-sum-none f w none (suc n) = omega (arith, sum-none f w none n)
+total-none f w none zero = refl
+total-none f w none (suc n) = omega (arith, total-none f w none n)

@@ -140,7 +140,8 @@ module _ (workers n opened : ℕ) {s u : View} {es : List Entry} {k : ℕ} (walk
     abbrev count : (Entry → ℕ) → ℕ
     count f = total (inBucket (y .bucket) f) between
 
-    -- a swap that wins finds the mark word as it stood at the moment, so that no one has committed or closed
+    -- A swap that wins finds the mark word as it stood at the moment. The version in it says that the commits since are a multiple of
+    -- 2^32; each has a ticket of its own, so that there are fewer: none. With no commit, as many valid slots as then say no close either.
     none-between : 0 < n → Wins y → (count commitOf ≡ 0) × (count closeOf ≡ 0)
     none-between some won =
         let b = y .bucket in

@@ -84,19 +84,19 @@ module _ (s : State) where
   abbrev pub lookBy : ℕ → ℕ → Started
   lookBy i lot = lookCall (s .board) (seatOf s i) (recordOf s i) lot
 
-  -- of an insert
+  -- what it says of the start of an insert
   abbrev pub insertBy : ℕ → ℕ → Ticket → Started
   insertBy i lot t = insertCall (s .board) (seatOf s i) (recordOf s i) (record { lot = lot; ticket = t .number })
 
-  -- of a remove
+  -- what it says of the start of a remove
   abbrev pub removeBy : ℕ → ℕ → Started
   removeBy i lot = removeCall (s .board) (seatOf s i) (recordOf s i) lot
 
-  -- of one turn
+  -- what it says of one turn
   abbrev pub turnBy : ℕ → After Turned
   turnBy i = turnCall (s .board) (seatOf s i) (recordOf s i)
 
-  -- of a run
+  -- what it says of a run
   abbrev pub runOf : List ℕ → After Ran
   runOf turns = runCall (s .board) (s .floor) (s .records) (length (s .records)) turns
 
@@ -110,7 +110,7 @@ startedAs s i x = record { board = s .board; floor = x .floor; records = set (s 
 abbrev pub turnedAs : State → ℕ → After Turned → State
 turnedAs s i x = record { board = x .words; floor = s .floor; records = set (s .records) i (x .handed .worker) }
 
--- so does a run, with all records
+-- a run leaves the floor; the board and all records are what it leaves and hands back
 abbrev pub ranAs : State → After Ran → State
 ranAs s x = record { board = x .words; floor = s .floor; records = x .handed .records }
 
@@ -167,7 +167,7 @@ unfoldable pub stateFrom : State → List Call → State
 stateFrom s [] = s
 stateFrom s (c ∷ cs) = stateFrom (after s c) cs
 
--- their entries
+-- the turns that calls do, one after another
 unfoldable pub traceFrom : State → List Call → List Entry
 traceFrom s [] = []
 traceFrom s (c ∷ cs) = entries s c ++ traceFrom (after s c) cs

@@ -1,9 +1,14 @@
+-- the statements
 pub mod Plays
+pub mod Listings
+pub mod Sleeper
+-- a point stands as the calls so far leave an opened board
 pub mod Points
+pub mod Standing
 pub mod Turning
 pub mod Calling
-pub mod Standing
 pub mod Asked
 pub mod Lines
+-- a play comes to its end, and to its listing
 pub mod Ending
 pub mod Readings

@@ -75,11 +75,16 @@ take-idle (suc n) zero less = absurd (omega arith)
 take-idle (suc n) (suc m) less = ap (λ (ws : List Worker). idle ∷ ws) (take-idle n m (omega arith))
 
 -- a floor stops with the number of its opening
-open-stop : (plan : Plan) (board : List ℕ) → openField plan (after board shutDesk) .stop ≡ openNumber (planned plan) board (plan .workers)
+pub open-stop : (plan : Plan) (board : List ℕ) → openField plan (after board shutDesk) .stop ≡ openNumber (planned plan) board (plan .workers)
 unfolding openField openCall
 open-stop plan board =
     let n = openNumber (planned plan) board (plan .workers) in
     by-cases (λ (x : After Opened). x .handed .refusal ≡ n) (eqb n 0) _ _ (λ is. sym (eqb-true n 0 is)) (λ isnot. refl)
+
+-- and lists nothing
+pub open-lists : (plan : Plan) (board : List ℕ) → openField plan (after board shutDesk) .lines ≡ []
+unfolding openField
+open-lists plan board = refl
 
 -- one that is accepted leaves empty buckets, and idle records
 open-is :
@@ -177,8 +182,7 @@ module _ {sheet board : List ℕ} (f : FloorAccepted sheet board) (bytes : Bytes
   -- the play of a sheet of bytes whose floor is accepted is the history of an opening and calls
   pub plays-history : (o : Opening) × ((calls : List Call) × PlaysHistory f o calls)
   plays-history =
-      let there = at-point calls (finishes .end) (finishes .reached) .stands in
-      (
+      let there = at-point calls (finishes .end) (finishes .reached) .stands in (
         opening,
         (
           calls,

@@ -1,2 +1,3 @@
 pub mod Points
 pub mod Plays
+pub mod Sleeper

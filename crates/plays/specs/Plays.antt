@@ -5,6 +5,8 @@ use mathlib.Core.Path.{_≡_}
 use mathlib.Core.List.{List, [], _∷_, _++_}
 use lib.ListN.{length, take}
 use Rattle.turn.specs.Turn.{after}
+use Rattle.engine.specs.declared.Totals.{Totals}
+use Rattle.sheet.specs.Line.{totalsLine, refusalLine}
 use Rattle.sheet.specs.Play.{endedLine}
 use Rattle.sheet.specs.Listing.{played}
 use Rattle.history.specs.Trace.{Entry}
@@ -62,3 +64,21 @@ pub record PlaysHistory {sheet board : List ℕ} (f : FloorAccepted sheet board)
   pub line : List ℕ
   pub last : LastLine sheet end line
   pub listed : played sheet board ≡ after (state o calls .board) (endLines 1 (trace o calls) ++ line)
+
+-- ---- every listing
+
+-- the numbers by which a sheet is ever refused
+abbrev pub everyRefusal : List ℕ
+everyRefusal = 1 ∷ 9 ∷ refusals
+
+-- a last line: the totals, or a refusal by one of those numbers
+pub data EndsIn : List ℕ → Type 0 where
+  totals : (t : Totals) → EndsIn (totalsLine t)
+  refusal : (number offset : ℕ) → OneOf everyRefusal number → EndsIn (refusalLine number offset)
+
+-- a listing in which nothing is refused by 3 or by 7: the E lines of some turns, and one last line
+pub record NeverBroken (listing : List ℕ) : Type 0 where
+  pub turns : List Entry
+  pub line : List ℕ
+  pub ends : EndsIn line
+  pub whole : listing ≡ endLines 1 turns ++ line

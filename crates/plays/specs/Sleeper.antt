@@ -1,0 +1,52 @@
+-- The sleeper's sheet, byte by byte, and its listing.
+use Prim.Native.Nat.{ℕ}
+use mathlib.Core.List.{List, [], _∷_, _++_}
+use lib.ListN.{replicate}
+use Rattle.sheet.specs.Line.{endLine, totalsLine}
+
+-- a lot below 256, in eight bytes
+abbrev lot : ℕ → List ℕ
+lot n = 0 ∷ 0 ∷ 0 ∷ 0 ∷ 0 ∷ 0 ∷ 0 ∷ n ∷ []
+
+-- a ticket below 256, in four bytes
+abbrev ticket : ℕ → List ℕ
+ticket n = 0 ∷ 0 ∷ 0 ∷ n ∷ []
+
+-- the floor: so many workers, one bucket, version 0
+abbrev floor : ℕ → List ℕ
+floor w = 1 ∷ 0 ∷ 7 ∷ w ∷ 0 ∷ 1 ∷ ticket 0
+
+-- a worker's insert
+abbrev insert : ℕ → ℕ → ℕ → List ℕ
+insert w l t = 2 ∷ 0 ∷ 14 ∷ w ∷ 2 ∷ (lot l ++ ticket t)
+
+-- a worker's remove
+abbrev remove : ℕ → ℕ → List ℕ
+remove w l = 2 ∷ 0 ∷ 10 ∷ w ∷ 3 ∷ lot l
+
+-- so many turns of a worker
+abbrev turns : ℕ → ℕ → List ℕ
+turns n w = 3 ∷ 0 ∷ n ∷ replicate n w
+
+-- worker 1 reads its word and falls asleep; worker 0 closes lot 7 and opens it again; worker 1 wakes
+abbrev pub sleeperSheet : List ℕ
+sleeperSheet =
+    floor 2
+    ++ insert 0 7 1
+    ++ turns 11 0
+    ++ remove 1 7
+    ++ turns 3 1
+    ++ remove 0 7
+    ++ turns 4 0
+    ++ insert 0 7 2
+    ++ turns 11 0
+    ++ turns 5 1
+
+-- its four E lines, and 34 turns with 6 changes, 1 lost swap and no full round
+abbrev pub sleeperListing : List ℕ
+sleeperListing =
+    endLine 11 0 2 1
+    ++ endLine 18 0 3 1
+    ++ endLine 29 0 2 1
+    ++ endLine 34 1 3 2
+    ++ totalsLine (record { turns = 34; changes = 6; lost = 1; full = 0 })
