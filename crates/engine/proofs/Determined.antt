@@ -1,13 +1,75 @@
--- Two outcomes that meet the promise of a show or of a count are equal. The other calls promise one equation, and
--- one-outcome of turn or one-answer of mark says it of them. Assumes nothing.
+-- Two outcomes that meet the promise of a call are equal: the board where the call can change it, and what is handed back. Each is
+-- over the record that the call's contract cites. Assumes nothing.
 use Prim.Native.Nat.{ℕ}
 use mathlib.Core.Path.{_≡_}
 use mathlib.Core.List.{List}
 use denote.Ref.{RefT}
+use Rattle.turn.specs.declared.Worker.{Worker}
+use Rattle.turn.specs.declared.Report.{Report}
+use Rattle.turn.specs.declared.Tried.{Tried}
 use Rattle.mark.proofs.OneAnswer.{one-answer}
+use Rattle.turn.proofs.OneOutcome.{one-outcome}
 use Rattle.engine.specs.declared.Floor.{Floor}
+use Rattle.engine.specs.declared.Plan.{Plan}
+use Rattle.engine.specs.declared.Seat.{Seat}
+use Rattle.engine.specs.declared.Laid.{Laid}
+use Rattle.engine.specs.declared.Started.{Started}
+use Rattle.engine.specs.declared.Totals.{Totals}
 use Rattle.engine.specs.declared.Counted.{Counted}
-use Rattle.engine.specs.Promises.{Shown, CountDone}
+use Rattle.engine.specs.Promises.{BlankMade, FloorLaid, StartDone, TurnTried, NoneCounted, TurnCounted, RunTested, ShowTested, ShowPlaced, Shown, CountDone}
+
+-- the blank record
+pub blank-determined : (r t : Worker) → BlankMade r → BlankMade t → r ≡ t
+blank-determined r t p q = one-answer (p .whole) (q .whole)
+
+-- an opening: the board, and what is laid out beside it
+pub open-determined :
+    (board : List ℕ) (f : Floor) (listed : ℕ) (plan : Plan) (b c : List ℕ) (r t : Laid)
+    → FloorLaid board f listed plan b r
+    → FloorLaid board f listed plan c t
+    → (b ≡ c) × (r ≡ t)
+open-determined board f listed plan b c r t p q = one-outcome (p .whole) (q .whole)
+
+-- a look, an insert and a remove: the record, the floor and the number
+pub start-determined :
+    {B : Type 0} (start : List ℕ → Seat → Worker → B → Started) (board : List ℕ) (s : Seat) (w : Worker) (b : B) (r t : Started)
+    → StartDone start board s w b r
+    → StartDone start board s w b t
+    → r ≡ t
+start-determined start board s w b r t p q = one-answer (p .whole) (q .whole)
+
+-- a turn: the board, and what is handed back
+pub turn-determined :
+    (board : List ℕ) (s : Seat) (w : Worker) (b c : List ℕ) (r t : Tried)
+    → TurnTried board s w b r
+    → TurnTried board s w c t
+    → (b ≡ c) × (r ≡ t)
+turn-determined board s w b c r t p q = one-outcome (p .whole) (q .whole)
+
+-- the totals before the first turn
+pub nothing-determined : (r t : Totals) → NoneCounted r → NoneCounted t → r ≡ t
+nothing-determined r t p q = one-answer (p .whole) (q .whole)
+
+-- the totals with one turn more
+pub add-determined :
+    (totals : Totals) (place : ℕ) (report : Report) (r t : Totals)
+    → TurnCounted totals place report r
+    → TurnCounted totals place report t
+    → r ≡ t
+add-determined totals place report r t p q = one-answer (p .whole) (q .whole)
+
+-- the number that refuses a run as a whole
+pub run-refusal-determined :
+    (f : Floor) (words listed count r t : ℕ) → RunTested f words listed count r → RunTested f words listed count t → r ≡ t
+run-refusal-determined f words listed count r t p q = one-answer (p .whole) (q .whole)
+
+-- the number of refusal of a show
+pub show-refusal-determined : (board : List ℕ) (f : Floor) (lot r t : ℕ) → ShowTested board f lot r → ShowTested board f lot t → r ≡ t
+show-refusal-determined board f lot r t p q = one-answer (p .whole) (q .whole)
+
+-- where the part that is shown starts
+pub show-start-determined : (board : List ℕ) (f : Floor) (lot r t : ℕ) → ShowPlaced board f lot r → ShowPlaced board f lot t → r ≡ t
+show-start-determined board f lot r t p q = one-answer (p .whole) (q .whole)
 
 -- the words that are shown, and where they stand
 pub show-determined :

@@ -1,10 +1,9 @@
 // The calls of the desk on a lent board, with one record by value.
 ghost use mathlib.Core.Path.{_≡_};
 ghost use mathlib.Core.Bool.{cond};
-ghost use Rattle.turn.specs.Turn.{after};
-ghost use Rattle.engine.specs.Refusals.{recordNumber, startRefusal, runRefusal, showNumber};
-ghost use Rattle.engine.specs.Calls.{blank, layCall, startMade, lookCall, insertCall, removeCall, tryCall, showStart};
-ghost use Rattle.engine.specs.Promises.{Shown, CountDone};
+ghost use Rattle.engine.specs.Refusals.{recordNumber, startRefusal};
+ghost use Rattle.engine.specs.Calls.{startMade, lookCall, insertCall, removeCall};
+ghost use Rattle.engine.specs.Promises.{BlankMade, FloorLaid, StartDone, TurnTried, RunTested, Shown, ShowPlaced, ShowTested, CountDone};
 use turn::Tried;
 use turn::Worker;
 use turn::record;
@@ -75,7 +74,7 @@ pub enum Counted {
 
 // What stands for a record past the end of a list; no call for its worker is accepted.
 pub fn blank() -> Worker
-    ensures { λ r. ⌜ r ≡ blank ⌝ }
+    ensures { λ r. ⌜ BlankMade r ⌝ }
 {
     Worker {
         key: 0,
@@ -92,7 +91,7 @@ pub fn blank() -> Worker
 // Opens a floor on a lent board of eight words a bucket, for a list of as many records as there are workers; whoever has the list
 // makes its records idle.
 pub fn open_floor(board: &mut [u64], floor: Floor, listed: usize, plan: Plan) -> Laid
-    ensures { λ r. ⌜ after (now (board .exit)) r ≡ layCall (now (board .entry)) floor listed plan ⌝ }
+    ensures { λ r. ⌜ FloorLaid (now (board .entry)) floor listed plan (now (board .exit)) r ⌝ }
 {
     let opened = Floor {
         workers: plan.workers,
@@ -115,7 +114,7 @@ pub fn open_floor(board: &mut [u64], floor: Floor, listed: usize, plan: Plan) ->
 }
 
 pub fn start_look(board: &[u64], seat: Seat, w: Worker, lot: u64) -> Started
-    ensures { λ r. ⌜ r ≡ lookCall (now (board .entry)) seat w lot ⌝ }
+    ensures { λ r. ⌜ StartDone lookCall (now (board .entry)) seat w lot r ⌝ }
 {
     let floor = seat.floor;
     let refusal = start_refusal(floor, board.len(), seat.listed, seat.worker, w, false);
@@ -123,7 +122,7 @@ pub fn start_look(board: &[u64], seat: Seat, w: Worker, lot: u64) -> Started
 }
 
 pub fn start_insert(board: &[u64], seat: Seat, w: Worker, bid: Bid) -> Started
-    ensures { λ r. ⌜ r ≡ insertCall (now (board .entry)) seat w bid ⌝ }
+    ensures { λ r. ⌜ StartDone insertCall (now (board .entry)) seat w bid r ⌝ }
 {
     let floor = seat.floor;
     let mut after = seat.floor;
@@ -140,7 +139,7 @@ pub fn start_insert(board: &[u64], seat: Seat, w: Worker, bid: Bid) -> Started
 }
 
 pub fn start_remove(board: &[u64], seat: Seat, w: Worker, lot: u64) -> Started
-    ensures { λ r. ⌜ r ≡ removeCall (now (board .entry)) seat w lot ⌝ }
+    ensures { λ r. ⌜ StartDone removeCall (now (board .entry)) seat w lot r ⌝ }
 {
     let floor = seat.floor;
     let refusal = start_refusal(floor, board.len(), seat.listed, seat.worker, w, false);
@@ -209,7 +208,7 @@ fn start(refusal: u8, floor: Floor, w: Worker, new: Worker, after: Floor) -> Sta
 
 // One turn of one worker, given its record.
 pub fn try_turn(board: &mut [u64], seat: Seat, w: Worker) -> Tried
-    ensures { λ r. ⌜ after (now (board .exit)) r ≡ tryCall (now (board .entry)) seat w ⌝ }
+    ensures { λ r. ⌜ TurnTried (now (board .entry)) seat w (now (board .exit)) r ⌝ }
 {
     let floor = seat.floor;
     if size::are_wrong(board, floor, seat.listed) {
@@ -223,7 +222,7 @@ pub fn try_turn(board: &mut [u64], seat: Seat, w: Worker) -> Tried
 
 // The number that refuses a run as a whole, or 0: of a board of so many words, a list of so many records, and so many turns.
 pub fn run_refusal(floor: Floor, words: usize, listed: usize, count: usize) -> u8
-    ensures { λ r. ⌜ r ≡ runRefusal floor words listed count ⌝ }
+    ensures { λ r. ⌜ RunTested floor words listed count r ⌝ }
 {
     if size::words_are_wrong(floor, words, listed) {
         return refusal::WRONG_SIZES;
@@ -247,7 +246,7 @@ pub fn show(board: &[u64], floor: Floor, lot: u64) -> &[u64]
 
 // Where that part starts on the board, in words; 0 where the show is refused.
 pub fn show_start(board: &[u64], floor: Floor, lot: u64) -> usize
-    ensures { λ r. ⌜ r ≡ showStart (now (board .entry)) floor lot ⌝ }
+    ensures { λ r. ⌜ ShowPlaced (now (board .entry)) floor lot r ⌝ }
 {
     if show_refusal(board, floor, lot) == 0 {
         return lots::first_word(lot, floor.buckets);
@@ -257,7 +256,7 @@ pub fn show_start(board: &[u64], floor: Floor, lot: u64) -> usize
 
 // The number of refusal of a show on the same arguments, or 0.
 pub fn show_refusal(board: &[u64], floor: Floor, lot: u64) -> u8
-    ensures { λ r. ⌜ r ≡ showNumber floor (now (board .entry)) lot ⌝ }
+    ensures { λ r. ⌜ ShowTested (now (board .entry)) floor lot r ⌝ }
 {
     if size::is_wrong(board, floor) {
         return refusal::WRONG_SIZES;

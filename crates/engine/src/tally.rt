@@ -2,13 +2,14 @@
 ghost use mathlib.Core.Path.{_≡_};
 ghost use Prim.Native.Nat.{_+_};
 ghost use mathlib.Core.Bool.{cond};
-ghost use Rattle.engine.specs.Calls.{changes, losses, noTurns, tallied, capped, cappedTotals};
+ghost use Rattle.engine.specs.Calls.{changes, losses, capped};
+ghost use Rattle.engine.specs.Promises.{NoneCounted, TurnCounted};
 use crate::Totals;
 use turn::Action;
 use turn::Report;
 
 pub fn nothing() -> Totals
-    ensures { λ r. ⌜ r ≡ noTurns ⌝ }
+    ensures { λ r. ⌜ NoneCounted r ⌝ }
 {
     Totals {
         turns: 0,
@@ -71,7 +72,7 @@ fn more(count: u32, some: u32) -> u32
 
 // The totals with one turn more, done at a place.
 pub fn add(totals: Totals, place: u8, report: Report) -> Totals
-    ensures { λ r. ⌜ r ≡ cappedTotals (tallied place report totals) ⌝ }
+    ensures { λ r. ⌜ TurnCounted totals place report r ⌝ }
 {
     let action = report.action;
     Totals {

@@ -1,13 +1,15 @@
--- Two outcomes that meet the promise of a call are equal: the board, the list and what is handed back. Of a show and of its second
--- call the engine's show-determined and mark's one-answer say it. Assumes nothing.
+-- Two outcomes that meet the promise of a call are equal: the board, the list and what is handed back. Each is over the record that the
+-- call's contract cites; of a show and of its second call the engine's show-determined and show-refusal-determined say it. Assumes nothing.
 use Prim.Native.Nat.{ℕ}
-use mathlib.Core.Path.{_≡_, refl, sym, ap, _∙_}
+use mathlib.Core.Path.{_≡_, ap}
 use mathlib.Core.List.{List}
 use Rattle.turn.specs.declared.Worker.{Worker}
-use Rattle.turn.specs.Turn.{After, after}
 use Rattle.mark.proofs.OneAnswer.{one-answer}
 use Rattle.turn.proofs.OneOutcome.{one-outcome}
 use Rattle.engine.specs.declared.Floor.{Floor}
+use Rattle.engine.specs.declared.Plan.{Plan}
+use Rattle.engine.specs.declared.Seat.{Seat}
+use Rattle.engine.specs.declared.Started.{Started}
 use Rattle.engine.specs.Calls.{Opened, Ran}
 use Rattle.floor.specs.declared.Outcome.{Outcome}
 use Rattle.floor.specs.declared.TurnOutcome.{TurnOutcome}
@@ -15,41 +17,48 @@ use Rattle.floor.specs.declared.RunOutcome.{RunOutcome}
 use Rattle.floor.specs.declared.Part.{Part}
 use Rattle.floor.specs.declared.CountOutcome.{CountOutcome}
 use Rattle.floor.specs.Calls.{OnList, onList}
-use Rattle.floor.specs.Promises.{TurnLeft, PartShown, CountLeft}
+use Rattle.floor.specs.Promises.{FloorOpened, StartLeft, TurnLeft, RunLeft, PartShown, CountLeft}
 
--- a start: the list and what is handed back
+-- a list with an answer, taken apart
+apart : {A : Type 0} {one two : List Worker} {r t : A} → onList one r ≡ onList two t → (one ≡ two) × (r ≡ t)
+apart {A} e = (ap (λ (y : OnList A). y .records) e, ap (λ (y : OnList A). y .answer) e)
+
+-- an opening: the board, the list, and the floor with the number
+pub desk-open-determined :
+    (board : List ℕ) (records : List Worker) (f : Floor) (plan : Plan) (b c : List ℕ) (one two : List Worker) (r t : Outcome)
+    → FloorOpened board records f plan b one r
+    → FloorOpened board records f plan c two t
+    → (b ≡ c) × (one ≡ two) × (r ≡ t)
+desk-open-determined board records f plan b c one two r t p q =
+    let e = one-outcome (p .whole) (q .whole) in
+    (e .0, ap (λ (y : Opened). y .records) (e .1), λ i. record { refusal = e .1 i .refusal; floor = e .1 i .floor })
+
+-- a look, an insert and a remove: the list, and the floor with the number
 pub desk-start-determined :
-    {A : Type 0} {one two : List Worker} {r t : A} {x : OnList A} → onList one r ≡ x → onList two t ≡ x → (one ≡ two) × (r ≡ t)
-desk-start-determined {A} p q =
-    let e = p ∙ sym q in (ap (λ (y : OnList A). y .records) e, ap (λ (y : OnList A). y .answer) e)
+    {B : Type 0} (start : List ℕ → Seat → Worker → B → Started) (board : List ℕ) (records : List Worker) (f : Floor) (i : ℕ) (b : B)
+    (one two : List Worker) (r t : Outcome)
+    → StartLeft start board records f i b one r
+    → StartLeft start board records f i b two t
+    → (one ≡ two) × (r ≡ t)
+desk-start-determined start board records f i b one two r t p q = apart (one-answer (p .whole) (q .whole))
 
--- a turn: the board too
+-- a turn: the board, the list, and what it tells
 pub desk-turn-determined :
     (board : List ℕ) (records : List Worker) (f : Floor) (i : ℕ) (b c : List ℕ) (one two : List Worker) (r t : TurnOutcome)
     → TurnLeft board records f i b one r
     → TurnLeft board records f i c two t
     → (b ≡ c) × (one ≡ two) × (r ≡ t)
 desk-turn-determined board records f i b c one two r t p q =
-    let e = one-outcome (p .whole) (q .whole) in let h = desk-start-determined (e .1) refl in (e .0, h .0, h .1)
+    let e = one-outcome (p .whole) (q .whole) in let h = apart (e .1) in (e .0, h .0, h .1)
 
--- an opening
-pub desk-open-determined :
-    {b c : List ℕ} {one two : List Worker} {x : After Opened} (r t : Outcome)
-    → after b (record { refusal = r .refusal; floor = r .floor; records = one }) ≡ x
-    → after c (record { refusal = t .refusal; floor = t .floor; records = two }) ≡ x
-    → (b ≡ c) × (one ≡ two) × (r ≡ t)
-desk-open-determined r t p q =
-    let e = one-outcome p q in
-    (e .0, ap (λ (y : Opened). y .records) (e .1), λ i. record { refusal = e .1 i .refusal; floor = e .1 i .floor })
-
--- a run
+-- a run: the board, the list, and the totals with the number
 pub desk-run-determined :
-    {b c : List ℕ} {one two : List Worker} {x : After Ran} (r t : RunOutcome)
-    → after b (record { records = one; totals = r .totals; stop = r .stop }) ≡ x
-    → after c (record { records = two; totals = t .totals; stop = t .stop }) ≡ x
+    (board : List ℕ) (records : List Worker) (f : Floor) (turns b c : List ℕ) (one two : List Worker) (r t : RunOutcome)
+    → RunLeft board records f turns b one r
+    → RunLeft board records f turns c two t
     → (b ≡ c) × (one ≡ two) × (r ≡ t)
-desk-run-determined r t p q =
-    let e = one-outcome p q in
+desk-run-determined board records f turns b c one two r t p q =
+    let e = one-outcome (p .whole) (q .whole) in
     (e .0, ap (λ (y : Ran). y .records) (e .1), λ i. record { totals = e .1 i .totals; stop = e .1 i .stop })
 
 -- a show to C: the words that are meant

@@ -13,7 +13,7 @@ use Rattle.engine.specs.declared.Counted.{Counted}
 use Rattle.engine.specs.declared.Counted.the-variants.{Refusal, Lots}
 use Rattle.engine.specs.Refusals.{turnNumber}
 use Rattle.engine.specs.Calls.{recordIn, seatIn, tryCall, turnCall, countedNumber}
-use Rattle.engine.specs.Promises.{CountDone}
+use Rattle.engine.specs.Promises.{TurnTried, CountDone}
 use Rattle.engine.proofs.Numbers.{turn-number}
 use Rattle.engine.proofs.Turns.{tried-is-turned}
 use Rattle.floor.specs.declared.TurnOutcome.{TurnOutcome}
@@ -31,13 +31,13 @@ told-number (Done report) = refl
 pub says-in :
     (board : List ℕ) (records : List Worker) (f : Floor) (i : ℕ) (w : Worker) (o : Tried) (board′ : List ℕ) (records′ : List Worker)
     → w ≡ recordIn records i
-    → after board′ o ≡ tryCall board (seatIn f records i) w
+    → TurnTried board (seatIn f records i) w board′ o
     → records′ ≡ set records i (o .worker)
     → after board′ (onList records′ (o .said)) ≡ sayIn board records f i
 says-in board records f i w o board′ records′ e₁ e₂ e₃ =
     let put : After Tried → After (OnList Said) =
     λ x. after (x .words) (onList (set records i (x .handed .worker)) (x .handed .said)) in
-    rw (e₃, ← e₁) (ap put e₂)
+    rw (e₃, ← e₁) (ap put (e₂ .whole))
 
 -- a turn: what it says, told
 pub turn-left :

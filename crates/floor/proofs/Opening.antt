@@ -15,7 +15,9 @@ use Rattle.engine.specs.declared.Laid.{Laid}
 use Rattle.engine.specs.Refusals.{openNumber}
 use Rattle.engine.specs.Board.{openedBoard}
 use Rattle.engine.specs.Calls.{Opened, planned, openCall, layCall}
+use Rattle.engine.specs.Promises.{FloorLaid}
 use Rattle.floor.specs.Lent.{idled}
+use Rattle.floor.specs.Promises.{FloorOpened}
 use Rattle.floor.proofs.Idled.{idled-none, idled-all}
 
 module _ (board : List ℕ) (f : Floor) (ys : List Worker) (p : Plan) where
@@ -54,7 +56,8 @@ module _ (board : List ℕ) (f : Floor) (ys : List Worker) (p : Plan) where
 -- the promise, from what the calls say
 pub open-left :
     (board : List ℕ) (f : Floor) (ys : List Worker) (p : Plan) (board′ : List ℕ) (laid : Laid) (ys′ : List Worker)
-    → after board′ laid ≡ layCall board f (length ys) p
+    → FloorLaid board f (length ys) p board′ laid
     → ys′ ≡ idled (laid .idle) ys
-    → after board′ (record { refusal = laid .refusal; floor = laid .floor; records = ys′ }) ≡ openCall board f ys (length ys) p
-open-left board f ys p board′ laid ys′ e₁ e₂ = rw e₂ (ap (onRecords board f ys p) e₁ ∙ opened-on-list board f ys p)
+    → FloorOpened board ys f p board′ ys′ (record { refusal = laid .refusal; floor = laid .floor })
+open-left board f ys p board′ laid ys′ e₁ e₂ =
+    record { whole = rw e₂ (ap (onRecords board f ys p) (e₁ .whole) ∙ opened-on-list board f ys p) }

@@ -40,7 +40,8 @@ use Rattle.engine.specs.declared.Seat.{Seat}
 use Rattle.engine.specs.declared.Started.{Started}
 use Rattle.floor.specs.Told.{startTold}
 use Rattle.engine.specs.Calls.{recordIn, seatIn}
-use Rattle.floor.specs.Calls.{onList, startIn}
+use Rattle.engine.specs.Promises.{StartDone}
+use Rattle.floor.specs.Promises.{StartLeft}
 use Rattle.turn.proofs.Worker.Laws as T′
 use Rattle.engine.proofs.Floor as F
 use Rattle.engine.proofs.Floor.Laws as F′
@@ -58,9 +59,10 @@ use Rattle.floor.proofs.list.take_at.Symbol as take-def
 use Rattle.floor.proofs.list.put_at.Symbol as put-def
 
 -- what the calls of a start say is what the start is
-start-is : (start : Seat → Worker → Started) (ys : List Worker) (f : Floor) (i : ℕ) (w : Worker) (o : Started) (us : List Worker)
-    → w ≡ recordIn ys i → o ≡ start (seatIn f ys i) w → us ≡ set ys i (o .worker) → onList us (startTold o) ≡ startIn start ys f i
-start-is start ys f i w o us e₁ e₂ e₃ = rw (e₃, e₂, e₁)
+start-is : {B : Type 0} (start : List ℕ → Seat → Worker → B → Started) (bs : List ℕ) (ys : List Worker) (f : Floor) (i : ℕ) (b : B) (w : Worker)
+    (o : Started) (us : List Worker)
+    → w ≡ recordIn ys i → StartDone start bs (seatIn f ys i) w b o → us ≡ set ys i (o .worker) → StartLeft start bs ys f i b us (startTold o)
+start-is start bs ys f i b w o us e₁ e₂ e₃ = record { whole = rw (e₃, e₂ .whole, e₁) }
 
 module _ (B : Plain) where
   -- what the core computes
@@ -93,14 +95,13 @@ module _ (B : Plain) where
   -- the core's contract, and the function's own
   abbrev pub inner : {M : Type 1} (𝓤 : URA M) → Core → Clauses 𝓤 core-ended
   inner 𝓤 core κs a = record
-      { ghost = Unit {0}; requires = λ _. emp 𝓤; ensures = λ _ r e. fact 𝓤 (r ≡ core (now (a .0)) (a .1 .0) (a .1 .1 .0) (a .1 .1 .1 .0)) }
+      { ghost = Unit {0}; requires = λ _. emp 𝓤; ensures = λ _ r e. fact 𝓤 (StartDone core (now (a .0)) (a .1 .0) (a .1 .1 .0) (a .1 .1 .1 .0) r) }
 
   abbrev pub outer : {M : Type 1} (𝓤 : URA M) → Core → Clauses 𝓤 ended
   outer 𝓤 core κs a = record {
     ghost = Unit {0};
     requires = λ _. emp 𝓤;
-    ensures = λ _ r e. fact 𝓤 (onList (now (e .1 .0)) r ≡ startIn (λ s w. core (now (a .0)) s w (a .1 .1 .1 .1 .0)) (now (a .1 .0)) (a .1 .1 .0)
-        (a .1 .1 .1 .0));
+    ensures = λ _ r e. fact 𝓤 (StartLeft core (now (a .0)) (now (a .1 .0)) (a .1 .1 .0) (a .1 .1 .1 .0) (a .1 .1 .1 .1 .0) (now (e .1 .0)) r);
   }
 
   -- its code, where nm is the core's key
@@ -187,7 +188,7 @@ module _ (B : Plain) where
         ((κs .0, tt), (qs .0, tt), tt, (a .0, (seat, (w, (b, tt)))), (slice-vals (a .0), (seat-vals seat, (vals w, (B .val b ∷ [], tt))))),
         tt,
       ) (id⊢ 𝓤 _)
-      (‵ (flft (κs .0) (qs .0)) ⊛ ‵ ftrue) refl (LL.val O.the-type O′.the-laws) (LL.tells O.the-type O′.the-laws) (λ r _. r ≡ core bs seat w b)
+      (‵ (flft (κs .0) (qs .0)) ⊛ ‵ ftrue) refl (LL.val O.the-type O′.the-laws) (LL.tells O.the-type O′.the-laws) (λ r _. StartDone core bs seat w b r)
       (λ r _. refl)
       (and-then ! (var ! (v 5 1) refl) (and-then ! (var ! (v 5 8) refl) (and-then ! (var ! (v 5 7) refl)
       (and-then ! (var ! (v 5 5) refl) (no-more !))))) (λ o _ o-is e₂.
@@ -215,5 +216,5 @@ module _ (B : Plain) where
       move ! (2 ∷ 4 ∷ []) $ fjoin ! $ move ! (3 ∷ 0 ∷ []) $ fjoin ! $ move ! (1 ∷ []) $ split ! $ move ! (3 ∷ 1 ∷ []) $ join ! $ move ! (1 ∷ 0 ∷ []) $
       join ! $
       suffices ! _ (ends (LL.val N.the-type N′.the-laws (startTold o)) (startTold o) (tt, (us, (tt, (tt, (still-last (B .row) (B .still) b, tt)))))
-      (tt, (same, (tt, (tt, (tt, tt)))))) $ says ! (start-is (λ s x. core bs s x b) ys f i w o us e₁ e₂ e₃) $ frame ! $ frame ! $
+      (tt, (same, (tt, (tt, (tt, tt)))))) $ says ! (start-is core bs ys f i b w o us e₁ e₂ e₃) $ frame ! $ frame ! $
       owned ! N.the-row (Is N.the-row) (LL.makes N.the-type N′.the-plain 𝓤 H A) (startTold o) _ told-is $ done !)))))))))))))))))))

@@ -23,7 +23,9 @@ use Rattle.engine.proofs.Few.{few-more, few-exact}
 use Rattle.engine.proofs.Stops.{run-over, next-done, next-refused}
 use Rattle.floor.specs.declared.run.Running.{Running}
 use Rattle.floor.specs.Running.{begun, goneOn}
+use Rattle.floor.specs.Told.{runTold}
 use Rattle.floor.specs.Calls.{OnList, onList, sayIn}
+use Rattle.floor.specs.Promises.{RunLeft}
 
 -- a run never comes to a number that a count could not hold
 short-enough : (i n : ℕ) → i < n → n ≤ 65535 → i + 1 ≤ 4294967295
@@ -178,5 +180,5 @@ module _ (f : Floor) (ts : List ℕ) where
     -- ---- the end
 
     pub over : (r : Running) (board : List ℕ) (records : List Worker) → Underway r board records → r .end ≤ r .at
-        → after board (record { records = records; totals = r .totals; stop = r .stop }) ≡ runCall first f ys (length ys) ts
-    over r board records under past = sym (run-over f ts (r .at) _ (omega (arith, under .end))) ∙ under .comes
+        → RunLeft first ys f ts board records (runTold r)
+    over r board records under past = record { whole = sym (run-over f ts (r .at) _ (omega (arith, under .end))) ∙ under .comes }

@@ -1,4 +1,5 @@
--- What the calls promise whose promise has several parts. Each part is an equation with a function of what the call is given.
+-- What each call on the lent list promises; a show and the test of one promise what the engine's do. Each part is an equation with a
+-- function of what the call is given.
 use Prim.Native.Nat.{ℕ}
 use mathlib.Core.Path.{_≡_}
 use mathlib.Core.List.{List}
@@ -6,19 +7,39 @@ use lib.ListN.{length}
 use Rattle.turn.specs.declared.Worker.{Worker}
 use Rattle.turn.specs.Turn.{after}
 use Rattle.engine.specs.declared.Floor.{Floor}
+use Rattle.engine.specs.declared.Plan.{Plan}
+use Rattle.engine.specs.declared.Seat.{Seat}
+use Rattle.engine.specs.declared.Started.{Started}
 use Rattle.engine.specs.Refusals.{turnNumber, countNumber}
-use Rattle.engine.specs.Calls.{recordIn, showCall, showStart, countCall}
+use Rattle.engine.specs.Calls.{openCall, recordIn, runCall, showCall, showStart, countCall}
+use Rattle.floor.specs.declared.Outcome.{Outcome}
 use Rattle.floor.specs.declared.TurnOutcome.{TurnOutcome}
+use Rattle.floor.specs.declared.RunOutcome.{RunOutcome}
 use Rattle.floor.specs.declared.Part.{Part}
 use Rattle.floor.specs.declared.CountOutcome.{CountOutcome}
 use Rattle.floor.specs.Told.{countTold}
-use Rattle.floor.specs.Calls.{onList, turnIn}
+use Rattle.floor.specs.Calls.{onList, startIn, turnIn}
+
+-- an opening: the board and the list before and after, and what is handed back
+pub record FloorOpened (board : List ℕ) (records : List Worker) (f : Floor) (p : Plan) (board′ : List ℕ) (records′ : List Worker) (r : Outcome) :
+    Type 0 where
+  pub whole : after board′ (record { refusal = r .refusal; floor = r .floor; records = records′ }) ≡ openCall board f records (length records) p
+
+-- a start, by the engine's function of its kind and what it brings, a lot or a bid: the list before and after, and what is handed back
+pub record StartLeft {B : Type 0} (start : List ℕ → Seat → Worker → B → Started) (board : List ℕ) (records : List Worker) (f : Floor) (i : ℕ) (b : B)
+    (records′ : List Worker) (r : Outcome) : Type 0 where
+  pub whole : onList records′ r ≡ startIn (λ s w. start board s w b) records f i
 
 -- a turn: the board and the list before and after, and what is handed back
 pub record TurnLeft (board : List ℕ) (records : List Worker) (f : Floor) (i : ℕ) (board′ : List ℕ) (records′ : List Worker)
     (r : TurnOutcome) : Type 0 where
   pub whole : after board′ (onList records′ r) ≡ turnIn board records f i
   pub number : r .refusal ≡ turnNumber f board (length records) i (recordIn records i)
+
+-- a run: the board and the list before and after, and what is handed back
+pub record RunLeft (board : List ℕ) (records : List Worker) (f : Floor) (turns board′ : List ℕ) (records′ : List Worker) (r : RunOutcome) :
+    Type 0 where
+  pub whole : after board′ (record { records = records′; totals = r .totals; stop = r .stop }) ≡ runCall board f records (length records) turns
 
 -- a show, where no reference can be handed back: which words of the lent board are the part
 pub record PartShown (board : List ℕ) (f : Floor) (lot : ℕ) (p : Part) : Type 0 where

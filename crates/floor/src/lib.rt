@@ -1,13 +1,8 @@
 // The desk's library: every call over a lent board and one lent list of worker records. What holds the list is thin: it takes out the
 // record that the call concerns, lets the engine go on with it, and puts it back. C calls them under these names: include/desk.h.
-ghost use mathlib.Core.Path.{_≡_};
-ghost use lib.ListN.{length};
-ghost use Rattle.turn.specs.Turn.{after};
-ghost use Rattle.engine.specs.Refusals.{showNumber};
-ghost use Rattle.engine.specs.Calls.{openCall, lookCall, insertCall, removeCall, runCall};
-ghost use Rattle.engine.specs.Promises.{Shown};
-ghost use Rattle.floor.specs.Calls.{onList, startIn};
-ghost use Rattle.floor.specs.Promises.{TurnLeft, PartShown, CountLeft};
+ghost use Rattle.engine.specs.Calls.{lookCall, insertCall, removeCall};
+ghost use Rattle.engine.specs.Promises.{Shown, ShowTested};
+ghost use Rattle.floor.specs.Promises.{FloorOpened, StartLeft, TurnLeft, RunLeft, PartShown, CountLeft};
 use engine::Bid;
 use engine::Floor;
 use engine::Plan;
@@ -66,8 +61,7 @@ pub extern "C" fn desk_open_floor(
     floor: Floor,
     plan: Plan,
 ) -> Outcome
-    ensures { λ r. ⌜ after (now (board .exit)) (record { refusal = r .refusal; floor = r .floor; records = now (records .exit) })
-        ≡ openCall (now (board .entry)) floor (now (records .entry)) (length (now (records .entry))) plan ⌝ }
+    ensures { λ r. ⌜ FloorOpened (now (board .entry)) (now (records .entry)) floor plan (now (board .exit)) (now (records .exit)) r ⌝ }
 {
     let listed = records.len();
     let laid = engine::open_floor(board, floor, listed, plan);
@@ -87,8 +81,7 @@ pub extern "C" fn desk_start_look(
     worker: usize,
     lot: u64,
 ) -> Outcome
-    ensures { λ r. ⌜ onList (now (records .exit)) r
-        ≡ startIn (λ s w. lookCall (now (board .entry)) s w lot) (now (records .entry)) floor worker ⌝ }
+    ensures { λ r. ⌜ StartLeft lookCall (now (board .entry)) (now (records .entry)) floor worker lot (now (records .exit)) r ⌝ }
 {
     let listed = records.len();
     let w = list::take_at(records, worker);
@@ -114,8 +107,7 @@ pub extern "C" fn desk_start_insert(
     worker: usize,
     bid: Bid,
 ) -> Outcome
-    ensures { λ r. ⌜ onList (now (records .exit)) r
-        ≡ startIn (λ s w. insertCall (now (board .entry)) s w bid) (now (records .entry)) floor worker ⌝ }
+    ensures { λ r. ⌜ StartLeft insertCall (now (board .entry)) (now (records .entry)) floor worker bid (now (records .exit)) r ⌝ }
 {
     let listed = records.len();
     let w = list::take_at(records, worker);
@@ -141,8 +133,7 @@ pub extern "C" fn desk_start_remove(
     worker: usize,
     lot: u64,
 ) -> Outcome
-    ensures { λ r. ⌜ onList (now (records .exit)) r
-        ≡ startIn (λ s w. removeCall (now (board .entry)) s w lot) (now (records .entry)) floor worker ⌝ }
+    ensures { λ r. ⌜ StartLeft removeCall (now (board .entry)) (now (records .entry)) floor worker lot (now (records .exit)) r ⌝ }
 {
     let listed = records.len();
     let w = list::take_at(records, worker);
@@ -181,8 +172,7 @@ pub extern "C" fn desk_run(
     floor: Floor,
     turns: &[u8],
 ) -> RunOutcome
-    ensures { λ r. ⌜ after (now (board .exit)) (record { records = now (records .exit); totals = r .totals; stop = r .stop })
-        ≡ runCall (now (board .entry)) floor (now (records .entry)) (length (now (records .entry))) (now (turns .entry)) ⌝ }
+    ensures { λ r. ⌜ RunLeft (now (board .entry)) (now (records .entry)) floor (now (turns .entry)) (now (board .exit)) (now (records .exit)) r ⌝ }
 {
     let words = board.len();
     let listed = records.len();
@@ -219,7 +209,7 @@ pub extern "C" fn desk_show(board: &[u64], floor: Floor, lot: u64) -> Part
 // The number of refusal of a show on the same arguments, or 0.
 #[no_mangle]
 pub extern "C" fn desk_show_refusal(board: &[u64], floor: Floor, lot: u64) -> u8
-    ensures { λ r. ⌜ r ≡ showNumber floor (now (board .entry)) lot ⌝ }
+    ensures { λ r. ⌜ ShowTested (now (board .entry)) floor lot r ⌝ }
 {
     engine::show_refusal(board, floor, lot)
 }

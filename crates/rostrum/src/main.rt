@@ -1,14 +1,11 @@
 // The program at the rostrum: reads a sheet from standard input, and writes its listing.
-ghost use Prim.Native.Nat.{_≤_};
-ghost use Rattle.sheet.specs.Listing.{listing};
-ghost use Rattle.sheet.specs.Room.{longest};
-ghost use Rattle.sheet.specs.Written.{Wrote};
+ghost use Rattle.sheet.specs.Promises.{ListingWritten};
 use sheet::LIMIT;
 use sheet::ROOM;
 
 // The listing of a sheet, on this program's own board.
 fn listed(sheet: &[u8], out: &mut [u8; ROOM]) -> usize
-    ensures { λ r. ⌜ Wrote (now (out .entry)) 0 (listing (now (sheet .entry))) (now (out .exit)) r × (r ≤ longest) ⌝ }
+    ensures { λ r. ⌜ ListingWritten (now (sheet .entry)) (now (out .entry)) (now (out .exit)) r ⌝ }
 {
     let mut board = [0u64; 2048];
     let words = sheet::words(sheet);

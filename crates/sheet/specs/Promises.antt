@@ -1,4 +1,4 @@
--- What the functions promise whose promise has several parts.
+-- What the public functions promise, the program's `listed`, and of the private ones those whose promise has several parts.
 use Prim.Native.Nat.{ℕ, _≤_, _<_}
 use mathlib.Core.Path.{_≡_}
 use mathlib.Core.List.{List}
@@ -10,9 +10,9 @@ use Rattle.engine.specs.declared.Totals.{Totals}
 use Rattle.engine.specs.Calls.{recordIn}
 use Rattle.sheet.specs.declared.Took.{Took}
 use Rattle.sheet.specs.Play.{Desk, deskOf, Outcome, turnAtDesk}
-use Rattle.sheet.specs.Listing.{Ending}
+use Rattle.sheet.specs.Listing.{Ending, played, wordsAsked, listing}
 use Rattle.sheet.specs.Written.{Wrote}
-use Rattle.sheet.specs.Room.{due}
+use Rattle.sheet.specs.Room.{longest, due}
 
 -- a turn at the desk: the buffer before and after, the board and the desk that are left, the length of the listing, and the number
 pub record Does (o : Outcome) (out : List ℕ) (written : ℕ) (later board : List ℕ) (d : Desk) (next number : ℕ) : Type 0 where
@@ -39,3 +39,18 @@ pub record Takes (board : List ℕ) (f : Floor) (i : ℕ) (w : Worker) (t : Tota
 pub record Listed (e : Ending) (out board later : List ℕ) (r : ℕ) : Type 0 where
   pub left : board ≡ e .words
   pub lines : Wrote out 0 (e .handed) later r
+
+-- a sheet on a lent board: what it comes to, and no more than the buffer holds
+pub record SheetListed (sheet board out board′ later : List ℕ) (r : ℕ) : Type 0 where
+  pub whole : Listed (played sheet board) out board′ later r
+  pub fits : r ≤ longest
+
+-- how many words of a board a sheet asks for, and no more than the program has
+pub record BoardAsked (sheet : List ℕ) (r : ℕ) : Type 0 where
+  pub whole : r ≡ wordsAsked sheet
+  pub fits : r ≤ 2048
+
+-- a sheet on the program's own board: the buffer before and after, and the length of the listing
+pub record ListingWritten (sheet out later : List ℕ) (r : ℕ) : Type 0 where
+  pub lines : Wrote out 0 (listing sheet) later r
+  pub fits : r ≤ longest

@@ -5,9 +5,9 @@ ghost use Prim.Native.Nat.{_+_, _≤_};
 ghost use lib.ListN.{length};
 ghost use Rattle.turn.specs.Turn.{after};
 ghost use Rattle.sheet.specs.Play.{shutDesk, openedDesk, outcome};
-ghost use Rattle.sheet.specs.Listing.{afterField, fieldsFrom, played, wordsAsked};
+ghost use Rattle.sheet.specs.Listing.{afterField, fieldsFrom};
 ghost use Rattle.sheet.specs.Room.{longest, LaterFit};
-ghost use Rattle.sheet.specs.Promises.{Listed};
+ghost use Rattle.sheet.specs.Promises.{Listed, SheetListed, BoardAsked};
 use engine::Floor;
 use engine::Plan;
 use engine::Totals;
@@ -62,7 +62,7 @@ struct Took {
 
 // How many words of a board the sheet's floor asks for.
 pub fn words(sheet: &[u8]) -> usize
-    ensures { λ r. ⌜ (r ≡ wordsAsked (now (sheet .entry))) × (r ≤ 2048) ⌝ }
+    ensures { λ r. ⌜ BoardAsked (now (sheet .entry)) r ⌝ }
 {
     let Read::Whole(field, _) = reading::read(sheet, 0) else {
         return 0;
@@ -78,8 +78,7 @@ pub fn words(sheet: &[u8]) -> usize
 
 // Plays a sheet on a lent board, writes its listing, and tells how long that is.
 pub fn list(sheet: &[u8], board: &mut [u64], out: &mut [u8; ROOM]) -> usize
-    ensures { λ r. ⌜ Listed (played (now (sheet .entry)) (now (board .entry)))
-        (now (out .entry)) (now (board .exit)) (now (out .exit)) r × (r ≤ longest) ⌝ }
+    ensures { λ r. ⌜ SheetListed (now (sheet .entry)) (now (board .entry)) (now (out .entry)) (now (board .exit)) (now (out .exit)) r ⌝ }
 {
     if sheet.len() > LIMIT {
         return line::refused(out, 0, refusal::TOO_LONG, 0);

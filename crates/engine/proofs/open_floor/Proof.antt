@@ -8,7 +8,7 @@ use Rattle.engine.proofs.open_floor.Tie as tie
 
 returns : tie.Need-returns
 unfolding openCall openNumber
-returns c = rw (sym (c .before .are-wrong .ensures) ∙ c .if1 .taken)
+returns c = record { whole = rw (sym (c .before .are-wrong .ensures) ∙ c .if1 .taken) }
 
 open-requires : tie.Need-open-requires
 open-requires c κs =
@@ -21,7 +21,7 @@ unfolding openCall openNumber
 returns-2 c =
     let o = c .before .before in
     let e = o .before .before in
-    rw (sym (e .before .are-wrong .ensures) ∙ e .if1 .left) (simp (o .open .ensures))
+    record { whole = rw (sym (e .before .are-wrong .ensures) ∙ e .if1 .left) (simp (o .open .ensures)) }
 
 pub open-floor-spec : {M : Type 1} → statement M
 open-floor-spec =

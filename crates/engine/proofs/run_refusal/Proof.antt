@@ -8,6 +8,6 @@ run-refusal-spec =
     tie.close
     (tie.spec
     (λ c κs. search needs)
-    (λ c. search choices)
-    (λ c. search choices)
-    (λ c. search choices))
+    (λ c. record { whole = search choices })
+    (λ c. record { whole = search choices })
+    (λ c. record { whole = search choices }))

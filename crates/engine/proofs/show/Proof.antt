@@ -15,7 +15,7 @@ at-start o = omega arith
 
 -- a show that is not refused has a floor and a board that fit together
 ok : (c : tie.Then1) → Right (c .before .before .before .args .floor) (c .before .before .before .args .board .now)
-ok c = shown-right _ _ (c .before .before .before .args .lot) (sym (c .before .show-refusal .ensures) ∙ c .if1 .taken)
+ok c = shown-right _ _ (c .before .before .before .args .lot) (sym (c .before .show-refusal .ensures .whole) ∙ c .if1 .taken)
 
 first-word-requires : tie.Need-first-word-requires
 first-word-requires c κs = (ok c .some-bucket, ok c .buckets)
@@ -35,7 +35,7 @@ returns c =
     let f = c .before in
     let t = f .before in
     let a = t .before .before .before .args in
-    let done = eq-eqb _ 0 (sym (t .before .show-refusal .ensures) ∙ t .if1 .taken) in
+    let done = eq-eqb _ 0 (sym (t .before .show-refusal .ensures .whole) ∙ t .if1 .taken) in
     record {
       words = rw done (part-at (a .board .now) _ _ (f .first-word .ensures .0));
       start = rw done (ap (λ (n : ℕ). (a .board .ptr .0, n)) (omega (arith, f .first-word .ensures .0)));
@@ -48,8 +48,8 @@ returns-2 c =
     let a = e .before .before .before .args in
     let no = ne-eqb _ 0 (e .if1 .left) in
     record {
-      words = rw (← e .before .show-refusal .ensures, no);
-      start = rw (← e .before .show-refusal .ensures, no) (ap (λ (n : ℕ). (a .board .ptr .0, n)) (at-start (a .board .ptr .1)));
+      words = rw (← e .before .show-refusal .ensures .whole, no);
+      start = rw (← e .before .show-refusal .ensures .whole, no) (ap (λ (n : ℕ). (a .board .ptr .0, n)) (at-start (a .board .ptr .1)));
     }
 
 pub show-spec : {M : Type 1} → statement M

@@ -12,7 +12,7 @@ show-refusal-spec =
     tie.close
     (tie.spec
     (λ c κs. search needs)
-    (λ c. search choices)
+    (λ c. record { whole = search choices })
     (λ c κs. right _ _ (sym (c .before .is-wrong .ensures) ∙ c .if1 .left))
-    (λ c. search choices)
-    (λ c. search choices))
+    (λ c. record { whole = search choices })
+    (λ c. record { whole = search choices }))

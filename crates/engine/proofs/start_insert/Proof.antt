@@ -13,4 +13,4 @@ start-insert-spec =
     (λ c κs. search needs)
     (λ c κs. search needs)
     (λ c κs. search needs)
-    (λ c. let n = c .before in c .start .ensures ∙ rw (n .insert-of .ensures, n .before .start-refusal .ensures)))
+    (λ c. let n = c .before in record { whole = c .start .ensures ∙ rw (n .insert-of .ensures, n .before .start-refusal .ensures) }))

@@ -12,14 +12,14 @@ returns : tie.Need-returns
 unfolding tryCall turnNumber tried
 returns c =
     let t = c .before in
-    (rw (sym (t .before .are-wrong .ensures) ∙ t .if1 .taken) (ap (after _) (c .refused .ensures)))
+    record { whole = rw (sym (t .before .are-wrong .ensures) ∙ t .if1 .taken) (ap (after _) (c .refused .ensures)) }
 
 returns-2 : tie.Need-returns-2
 unfolding tryCall turnNumber eachNumber tried
 returns-2 c =
     let t = c .before in
     let e = t .before .before .before in
-    (rw (sym (e .before .are-wrong .ensures) ∙ e .if1 .left, le-leb _ _ (t .if2 .taken)) (ap (after _) (c .refused2 .ensures)))
+    record { whole = rw (sym (e .before .are-wrong .ensures) ∙ e .if1 .left, le-leb _ _ (t .if2 .taken)) (ap (after _) (c .refused2 .ensures)) }
 
 turn-requires : tie.Need-turn-requires
 turn-requires c κs =
@@ -32,7 +32,7 @@ returns-3 c =
     let t = c .before .before in
     let u = t .before .before in
     let e = u .before .before .before in
-    (rw (sym (e .before .are-wrong .ensures) ∙ e .if1 .left, lt-leb _ _ (u .if2 .left)) (t .turn .ensures))
+    record { whole = rw (sym (e .before .are-wrong .ensures) ∙ e .if1 .left, lt-leb _ _ (u .if2 .left)) (t .turn .ensures) }
 
 pub try-turn-spec : {M : Type 1} → statement M
 try-turn-spec =

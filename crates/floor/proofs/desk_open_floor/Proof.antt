@@ -30,8 +30,7 @@ use denote.Triple.Statement.{Triple}
 use denote.Triple.Table.{entered, cited}
 use denote.Triple.Walked.{says, Stays, gave-slice, stay-none, goes-gave-slice, goes-none}
 use denote.Exit.{yes}
-use Rattle.turn.specs.Turn.{after}
-use Rattle.engine.specs.Calls.{layCall}
+use Rattle.engine.specs.Promises.{FloorLaid}
 use Rattle.floor.specs.declared.Outcome.{Outcome}
 use Rattle.floor.specs.Lent.{idled}
 use Rattle.engine.proofs.Floor as F
@@ -112,7 +111,7 @@ open-meets 𝓤 H A W mem run 𝓣 cores idles = walk-closes 𝓤 H A W open-fn.
       tt,
     ) (id⊢ 𝓤 _)
     (‵ (flft (κs .0) (qs .0)) ⊛ ‵ ftrue) refl (LL.val O.the-type O′.the-laws) (LL.tells O.the-type O′.the-laws)
-    (λ r zs. after (zs .0) r ≡ layCall bs f n p) (λ r zs. refl)
+    (λ r zs. FloorLaid bs f n p (zs .0) r) (λ r zs. refl)
     (and-then ! (var ! (v 4 8) refl) (and-then ! (var ! (v 4 3) refl) (and-then ! (var ! (v 4 5) refl) (and-then ! (var ! (v 4 4) refl) (no-more !)))))
     (λ o zs o-is e₁.
     -- [κ₀'s token and true; the board's last state; κ₁'s token; what the list owns; what the plain ones own; _11; …]

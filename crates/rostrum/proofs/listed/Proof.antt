@@ -9,7 +9,7 @@ use Rattle.rostrum.proofs.listed.Statement.{statement}
 use Rattle.rostrum.proofs.listed.Tie as tie
 
 slice-aggregate-list : tie.Need-slice-aggregate-list
-slice-aggregate-list c = sym (length-take-le _ _ (c .before .words .ensures .1))
+slice-aggregate-list c = sym (length-take-le _ _ (c .before .words .ensures .fits))
 
 returns : tie.Need-returns
 returns c =
@@ -18,7 +18,10 @@ returns c =
     let a = b .before .before .before .args in
     let e = l .list .ensures in
     let part = take {A = ℕ} (b .before .words .result) (replicate 2048 0) in
-    (rw (← listing-on (a .sheet .now) part (sym (slice-aggregate-list b) ∙ b .before .words .ensures .0)) (e .0 .lines), e .1)
+    record {
+      lines = rw (← listing-on (a .sheet .now) part (sym (slice-aggregate-list b) ∙ b .before .words .ensures .whole)) (e .whole .lines);
+      fits = e .fits;
+    }
 
 pub listed-spec : {M : Type 1} → statement M
 listed-spec =

@@ -6,7 +6,7 @@ use Rattle.rostrum.proofs.main.Statement.{statement}
 use Rattle.rostrum.proofs.main.Tie as tie
 
 array-share-prefix-out : tie.Need-array-share-prefix-out
-array-share-prefix-out c = wrote-within _ _ _ _ (c .listed .ensures .0)
+array-share-prefix-out c = wrote-within _ _ _ _ (c .listed .ensures .lines)
 
 slice-aggregate-write-all : tie.Need-slice-aggregate-write-all
 slice-aggregate-write-all c = sym (length-take-le _ _ (array-share-prefix-out (c .before)))

@@ -62,7 +62,7 @@ returns-3 c =
     let o = h .before .before .before .before in
     let f = o .before .before .before in
     let is = read-at (f .before .before .before) _ (f .field .given .1) in
-    first-refused _ _ _ _ is _ _ (o .open-floor .ensures) (h .if1 .taken) (r .refused3 .ensures)
+    first-refused _ _ _ _ is _ _ (o .open-floor .ensures .whole) (h .if1 .taken) (r .refused3 .ensures)
 
 later-fields-requires : tie.Need-later-fields-requires
 later-fields-requires c κs =
@@ -79,7 +79,7 @@ returns-4 c =
     let o = e .before .before .before .before in
     let f = o .before .before .before in
     let is = read-at (f .before .before .before) _ (f .field .given .1) in
-    rw (← first-done _ _ _ _ is _ _ (o .open-floor .ensures) (e .if1 .left)) (d .later-fields .ensures)
+    rw (← first-done _ _ _ _ is _ _ (o .open-floor .ensures .whole) (e .if1 .left)) (d .later-fields .ensures)
 
 pub fields-spec : {M : Type 1} → statement M
 fields-spec =

@@ -42,7 +42,7 @@ loop-holds c =
     let s = c .before .before .before .before .before in
     let a = s .args in
     let starts = standing-starts (a .sheet .now) (a .board .now) (a .opened) (a .out .now) (a .first) (s .pre .some) (s .pre .inside) in
-    (rw (c .nothing .ensures, c .before .idle .ensures) starts, refl, refl)
+    (rw (c .nothing .ensures .whole, c .before .idle .ensures) starts, refl, refl)
 
 -- a last line has room, and speaks of a place and of counts that are small
 last-fits :
@@ -67,7 +67,7 @@ found :
     recordIn (l .loop .records) (getD (a .sheet .now) (l .loop .turn) 0) ≡ j .if2 .w
 found j =
     let l = j .before .before .before .before in
-    ⊎-elim (λ h. sym (h .2)) (λ h. no-record (l .loop .records) _ _ (l .loop .inv .0 .all) (h .0 .left) (h .1 ∙ j .before .blank .ensures)) (j .if2 .came)
+    ⊎-elim (λ h. sym (h .2)) (λ h. no-record (l .loop .records) _ _ (l .loop .inv .0 .all) (h .0 .left) (h .1 ∙ j .before .blank .ensures .whole)) (j .if2 .came)
 
 turn-requires : tie.Need-turn-requires Inv-loop μ-loop
 turn-requires c κs =
@@ -224,7 +224,7 @@ called :
     recordIn (l .loop .records) (f .field .given .0 .0 .worker) ≡ j .if5 .w
 called j =
     let l = j .before .before .before .before .before .before .before .before .before .before .before .before in
-    ⊎-elim (λ h. sym (h .2)) (λ h. no-record (l .loop .records) _ _ (l .loop .inv .0 .all) (h .0 .left) (h .1 ∙ j .before .blank2 .ensures)) (j .if5 .came)
+    ⊎-elim (λ h. sym (h .2)) (λ h. no-record (l .loop .records) _ _ (l .loop .inv .0 .all) (h .0 .left) (h .1 ∙ j .before .blank2 .ensures .whole)) (j .if5 .came)
 
 -- the loop, where a call is started
 abbrev before-start : tie.After-start Inv-loop μ-loop → tie.At-loop Inv-loop μ-loop

@@ -16,10 +16,11 @@ returns c =
     let t = c .before .before in
     let a = t .before .before .before .args in
     let w = c .refused .ensures in
-    let long : length (a .out .now) ≡ longest = search needs in (
-      rw (lt-ltb 16384 (length (a .sheet .now)) (t .if1 .taken)) (record { left = refl; lines = w }),
-      omega (arith, wrote-within _ _ _ _ w, c .refused .kept .0, long),
-    )
+    let long : length (a .out .now) ≡ longest = search needs in
+    record {
+      whole = rw (lt-ltb 16384 (length (a .sheet .now)) (t .if1 .taken)) (record { left = refl; lines = w });
+      fits = omega (arith, wrote-within _ _ _ _ w, c .refused .kept .0, long);
+    }
 
 returns-2 : tie.Need-returns-2
 unfolding played
@@ -29,10 +30,11 @@ returns-2 c =
     let a = e .before .before .before .args in
     let n = length (a .sheet .now) in
     let long : length (a .out .now) ≡ longest = search needs in
-    let done = d .fields .ensures in (
-      rw (le-ltb 16384 n (e .if1 .left)) (rw (add-one n) at done),
-      omega (arith, wrote-within _ _ _ _ (done .lines), d .fields .kept .1 .1 .0, long),
-    )
+    let done = d .fields .ensures in
+    record {
+      whole = rw (le-ltb 16384 n (e .if1 .left)) (rw (add-one n) at done);
+      fits = omega (arith, wrote-within _ _ _ _ (done .lines), d .fields .kept .1 .1 .0, long);
+    }
 
 pub list-spec : {M : Type 1} → statement M
 list-spec = tie.close (tie.spec (λ c κs. search needs) returns (λ c κs. search needs) (λ c. search needs) returns-2)

@@ -41,24 +41,27 @@ floor-asked c =
     asked _ _ _ (r .read .ensures) (f .field .given .1 ∙ ap (λ (x : Field). Whole x (f .field .given .0 .1 .0)) (c .field2 .given .1))
 
 returns : tie.Need-returns
-returns c = (asked _ _ _ (c .before .before .read .ensures) (c .enum-told .given .1), omega arith)
+returns c = record { whole = asked _ _ _ (c .before .before .read .ensures) (c .enum-told .given .1); fits = omega arith }
 
 returns-2 : tie.Need-returns-2
 returns-2 c =
     let f = c .before .before in
     let x = f .field .given .0 in
-    (other-none (x .0) (x .1 .0) (c .match2 .keys2) ∙ asked _ _ _ (f .before .before .read .ensures) (f .field .given .1), omega arith)
+    record {
+      whole = other-none (x .0) (x .1 .0) (c .match2 .keys2) ∙ asked _ _ _ (f .before .before .read .ensures) (f .field .given .1);
+      fits = omega arith;
+    }
 
 returns-3 : tie.Need-returns-3
 returns-3 c =
     let few = c .before .if1 .taken in
     let f = c .before .before .before .before in
-    (rw (le-leb (f .field2 .given .0 .0 .buckets) 256 few) at (floor-asked f), omega (arith, few))
+    record { whole = rw (le-leb (f .field2 .given .0 .0 .buckets) 256 few) at (floor-asked f); fits = omega (arith, few) }
 
 returns-4 : tie.Need-returns-4
 returns-4 c =
     let f = c .before .before .before in
-    (rw (lt-leb (f .field2 .given .0 .0 .buckets) 256 (c .if1 .left)) at (floor-asked f), omega arith)
+    record { whole = rw (lt-leb (f .field2 .given .0 .0 .buckets) 256 (c .if1 .left)) at (floor-asked f); fits = omega arith }
 
 pub words-spec : {M : Type 1} → statement M
 words-spec =

@@ -7,7 +7,9 @@ returns c =
     let f = c .before in
     let l = f .before .before in
     let h = l .before .before in
-    simp (c .more4 .ensures, f .rounds .ensures, f .before .more3 .ensures, l .losses .ensures, l .before .more2 .ensures, h .changes .ensures, h .before .more .ensures)
+    record {
+      whole = simp (c .more4 .ensures, f .rounds .ensures, f .before .more3 .ensures, l .losses .ensures, l .before .more2 .ensures, h .changes .ensures, h .before .more .ensures);
+    }
 
 pub add-spec : {M : Type 1} → statement M
 add-spec =

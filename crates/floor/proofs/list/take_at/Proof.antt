@@ -1,6 +1,6 @@
 -- A walk of `take_at`: in range the borrow is looked into, the record is taken out of the row, read and put back; else a blank is made.
 -- Assumes nothing.
-use mathlib.Core.Path.{_≡_, refl, sym, _∙_}
+use mathlib.Core.Path.{refl, sym, _∙_}
 use Prim.Native.Nat.{ℕ}
 use mathlib.Core.List.{[], _∷_}
 use lib.ListN.{length, getD, List·getD-eq-default}
@@ -35,6 +35,7 @@ use denote.Triple.Table.{entered, cited}
 use denote.Triple.Walked.{says, Stays, stay-none-slice, stay-none, goes-none-slice, goes-none}
 use denote.Exit.{yes}
 use Rattle.engine.specs.Calls.{blank}
+use Rattle.engine.specs.Promises.{BlankMade}
 use Rattle.turn.proofs.Worker as T
 use Rattle.turn.proofs.Worker.Laws as T′
 use Rattle.floor.proofs.Walk.{walk-closes, var, sets, gone, full, bare, span, part, gets, cited-call}
@@ -88,10 +89,10 @@ take-meets 𝓤 H A W mem run 𝓣 nones =
     (λ past.
     nothing ! $ nothing ! $ join ! $
     cited-call ! (fmOf 𝓤 H (W .laws) 𝓣) none.ended (none.clauses 𝓤 H A mem run) nones ((tt, tt, tt, tt, tt), tt) (id⊢ 𝓤 _) (‵ ftrue) refl val
-    (LL.tells T.the-type T′.the-laws) (λ r _. r ≡ blank) (λ r _. refl) (no-more !) (λ r _ r-is e.
+    (LL.tells T.the-type T′.the-laws) (λ r _. BlankMade r) (λ r _. refl) (no-more !) (λ r _ r-is e.
     gets ! 16 refl (typed 𝓤 H A W r r-is) $ drop ! $ drop ! $
     returns-within ! Post refl (look ! 14 refl) $ gone ! (full _, (full _, (full _, (full _, (full _, (bare, (bare, (bare, tt)))))))) $
-    suffices ! _ (ends (val r) r (tt, (tt, tt)) (tt, (tt, tt))) $ says ! (e ∙ sym (List·getD-eq-default ys blank (nltb→le i (length ys) past))) $
+    suffices ! _ (ends (val r) r (tt, (tt, tt)) (tt, (tt, tt))) $ says ! (e .whole ∙ sym (List·getD-eq-default ys blank (nltb→le i (length ys) past))) $
     frame ! $ frame ! $ owned ! row (Is row) (LL.makes T.the-type T′.the-plain 𝓤 H A) r _ r-is $ done !)))))))))))
 
 pub take-at-spec : {M : Type 1} → stated.statement M

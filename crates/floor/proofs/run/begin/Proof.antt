@@ -14,7 +14,7 @@ begin-spec =
     (λ c κs. search needs)
     (λ c.
     let n = c .before in
-    rw (eq-eqb _ 0 (sym (n .before .run-refusal .ensures) ∙ c .if1 .taken), n .nothing .ensures))
+    rw (eq-eqb _ 0 (sym (n .before .run-refusal .ensures .whole) ∙ c .if1 .taken), n .nothing .ensures .whole))
     (λ c.
     let n = c .before in
-    rw (← n .before .run-refusal .ensures, ne-eqb _ 0 (c .if1 .left), n .nothing .ensures)))
+    rw (← n .before .run-refusal .ensures .whole, ne-eqb _ 0 (c .if1 .left), n .nothing .ensures .whole)))

@@ -13,5 +13,5 @@ go-on-spec =
     (λ c κs. search needs)
     (λ c.
     let a = c .before in
-    rw (eq-eqb _ 0 (a .before .before .if1 .taken), a .add .ensures, c .next .ensures))
+    rw (eq-eqb _ 0 (a .before .before .if1 .taken), a .add .ensures .whole, c .next .ensures))
     (λ c. rw (ne-eqb _ 0 (c .if1 .left))))

@@ -16,7 +16,7 @@ was-tried :
     (t : tie.After-try-turn)
     → let a = t .before .before .before .before .before .args in
     after (t .try-turn .last .0) (t .try-turn .result) ≡ tryCall (a .board .now) (seatAt (a .floor) (a .worker)) (a .w)
-was-tried t = rw (← t .before .seat-of .ensures) (t .try-turn .ensures)
+was-tried t = rw (← t .before .seat-of .ensures) (t .try-turn .ensures .whole)
 
 returns : tie.Need-returns
 returns c =
@@ -34,7 +34,7 @@ counted n =
     let t = n .before .before .before .before .before .before .before .before in
     let s = t .before .before .before .before .before in
     let few = few-more 16383 (s .args .w .place) (t .try-turn .result .said .report) (s .args .before) (s .pre .few) in
-    (n .add .ensures ∙ few-exact _ _ (omega arith) few, few)
+    (n .add .ensures .whole ∙ few-exact _ _ (omega arith) few, few)
 
 told-requires : tie.Need-told-requires
 told-requires c κs =
