@@ -8,4 +8,6 @@ pub mod OneOutcome
 pub mod Ranges
 pub mod Rows
 pub mod Sound
+pub mod Values
+pub mod Waits
 pub mod Works
