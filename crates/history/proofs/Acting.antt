@@ -60,21 +60,21 @@ module _ (s : State) (i : ℕ) where
   b = bucketOf (w .key) (s .floor .buckets)
 
   -- its number of refusal
-  abbrev number : ℕ
+  abbrev pub number : ℕ
   number = turnNumber (s .floor) (s .board) (length (s .records)) i w
 
   -- what it does on the bucket, and on the board
   abbrev does : Step
   does = turn (bucketAt (s .board) b) w
 
-  abbrev done : After Turned
+  abbrev pub done : After Turned
   done = turnDone (s .floor) (s .board) w does
 
-  abbrev entry : Entry
+  abbrev pub entry : Entry
   entry = record { worker = i; bucket = b; was = w; report = does .stepped .report }
 
   -- where it is not refused, there is a record for each worker
-  listed : number ≡ 0 → length (s .records) ≡ s .floor .workers
+  pub listed : number ≡ 0 → length (s .records) ≡ s .floor .workers
   unfolding turnNumber
   listed none = right-listed (s .floor) (s .board) _ (passes (wrongSizes (s .floor) (s .board) _) 0 _ none .0)
 

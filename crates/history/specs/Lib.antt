@@ -4,5 +4,6 @@ pub mod Counts
 pub mod Moment
 pub mod Demand
 pub mod Openings
-pub mod Trials
+pub mod Values
 pub mod Unbroken
+pub mod Trials

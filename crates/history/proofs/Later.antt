@@ -1,0 +1,81 @@
+-- Traces and lists of tickets with more at their end. Assumes nothing.
+use Prim.Native.Nat.{ℕ, _<_}
+use mathlib.Core.List.{List, [], _∷_, _++_, append-assoc, nil≢cons, head-eq-of-cons-eq, tail-eq-of-cons-eq}
+use mathlib.Core.Logic.{_⊎_, inl, inr}
+use mathlib.Core.Path.{_≡_, refl, sym, ap, ap₂, subst, _∙_}
+use Rattle.history.specs.Trace.{Entry, Some, None}
+use Rattle.history.specs.Values.{In, Rising}
+
+-- ---- traces
+
+-- where a trace with one entry more, d, is cut at an entry e
+pub data CutLast (past : List Entry) (d : Entry) (before : List Entry) (e : Entry) : Type 0 where
+  last : before ≡ past → e ≡ d → CutLast past d before e
+  sooner : (later : List Entry) → past ≡ before ++ (e ∷ later) → CutLast past d before e
+
+module _ (d e : Entry) (later : List Entry) where
+  more : (x y : Entry) (past before : List Entry) → x ≡ y → CutLast past d before e → CutLast (x ∷ past) d (y ∷ before) e
+  more x y past before same (last is at) = last (ap₂ (λ (z : Entry) (l : List Entry). z ∷ l) (sym same) is) at
+  more x y past before same (sooner rest cut) = sooner rest (ap₂ (λ (z : Entry) (l : List Entry). z ∷ l) same cut)
+
+  -- a trace with one entry more is cut at that entry or further before
+  pub cut-last : (past before : List Entry) → past ++ (d ∷ []) ≡ before ++ (e ∷ later) → CutLast past d before e
+  cut-last [] [] cut = last refl (sym (head-eq-of-cons-eq cut))
+  cut-last [] (y ∷ []) cut = absurd (nil≢cons (tail-eq-of-cons-eq cut))
+  cut-last [] (y ∷ z ∷ before) cut = absurd (nil≢cons (tail-eq-of-cons-eq cut))
+  cut-last (x ∷ past) [] cut = sooner past (ap (λ (z : Entry). z ∷ past) (head-eq-of-cons-eq cut))
+  cut-last (x ∷ past) (y ∷ before) cut =
+      more x y past before (head-eq-of-cons-eq cut) (cut-last past before (tail-eq-of-cons-eq cut))
+
+module _ (P : Entry → Type 0) where
+  -- a trace with none of which P holds still has none with one entry more of which it does not hold
+  pub none-last : (past : List Entry) (d : Entry) → None P past → (P d → ⊥) → None P (past ++ (d ∷ []))
+  none-last past d none fails some = by (cut-last d (some .entry) (some .newer) past (some .older) (some .cut))
+    where
+      by : CutLast past d (some .older) (some .entry) → ⊥
+      by (last is at) = fails (subst P at (some .holds))
+      by (sooner rest cut) = none (record { older = some .older; entry = some .entry; newer = rest; cut = cut; holds = some .holds })
+
+  -- an entry of the first part of a trace stands in the whole
+  pub some-front : (es fs : List Entry) → Some P es → Some P (es ++ fs)
+  some-front es fs some =
+      record {
+        older = some .older;
+        entry = some .entry;
+        newer = some .newer ++ fs;
+        cut = ap (λ (l : List Entry). l ++ fs) (some .cut) ∙ append-assoc (some .older) (some .entry ∷ some .newer) fs;
+        holds = some .holds;
+      }
+
+  -- the entry at the end of a trace stands in it
+  pub some-last : (past : List Entry) (d : Entry) → P d → Some P (past ++ (d ∷ []))
+  some-last past d holds = record { older = past; entry = d; newer = []; cut = refl; holds = holds }
+
+-- ---- tickets
+
+-- a ticket of the first part of a list stands in the whole
+pub in-front : (t : ℕ) (ts us : List ℕ) → In t ts → In t (ts ++ us)
+in-front t (u ∷ ts) us (inl is) = inl is
+in-front t (u ∷ ts) us (inr rest) = inr (in-front t ts us rest)
+
+-- the ticket at the end of a list stands in it
+pub in-last : (t : ℕ) (ts : List ℕ) → In t (ts ++ (t ∷ []))
+in-last t [] = inl refl
+in-last t (u ∷ ts) = inr (in-last t ts)
+
+-- a ticket of a list with one more is of the list, or that one
+pub in-or-last : (t : ℕ) (ts : List ℕ) (u : ℕ) → In t (ts ++ (u ∷ [])) → In t ts ⊎ (t ≡ u)
+in-or-last t [] u (inl is) = inr is
+in-or-last t (x ∷ ts) u (inl is) = inl (inl is)
+in-or-last t (x ∷ ts) u (inr rest) = by (in-or-last t ts u rest)
+  where
+    by : In t ts ⊎ (t ≡ u) → In t (x ∷ ts) ⊎ (t ≡ u)
+    by (inl there) = inl (inr there)
+    by (inr is) = inr is
+
+-- rising numbers still rise with one more that is greater than each of them
+pub rising-last :
+    (low : ℕ) (ts : List ℕ) (u : ℕ) → low < u → ((t : ℕ) → In t ts → t < u) → Rising low ts → Rising low (ts ++ (u ∷ []))
+rising-last low [] u over above rising = (over, tt)
+rising-last low (t ∷ ts) u over above rising =
+    (rising .0, rising-last t ts u (above t (inl refl)) (λ x there. above x (inr there)) (rising .1))

@@ -1,0 +1,205 @@
+-- What is known of tickets on an opened board: those that were accepted rise up to the last one, each insert under way has one of them
+-- for itself, and no turn has stored it while the insert waits to. Assumes nothing.
+use Prim.Native.Nat.{ℕ, _≤_, _<_}
+use mathlib.Core.List.{List, [], _∷_, _++_, append-nil}
+use mathlib.Core.Logic.{_⊎_, inl, inr}
+use mathlib.Core.Path.{_≡_, refl, sym, subst, _∙_}
+use native.Mathlib.Omega.{arith}
+use lib.ListN.{length, set}
+use Rattle.turn.specs.declared.Worker.{Worker}
+use Rattle.turn.specs.Worker.{insertKind}
+use Rattle.turn.proofs.Values.{filled}
+use Rattle.turn.proofs.Waits.{Waits, turn-insert, turn-waits}
+use Rattle.history.specs.Trace.{Entry, None}
+use Rattle.history.specs.History.{State, recordOf}
+use Rattle.history.specs.Values.{Stores, StoresTicket, In, Rising}
+use Rattle.history.proofs.View.{each-worker}
+use Rattle.history.proofs.States.{view}
+use Rattle.history.proofs.Steps.{Spends, unticketed, ticketed, Begins, Turns, stepOf, Lasts}
+use Rattle.history.proofs.Later.{CutLast, last, sooner, cut-last, none-last, in-front, in-last, in-or-last, rising-last}
+
+-- an insert under way
+abbrev Inserts : Worker → Type 0
+Inserts w = w .kind ≡ insertKind
+
+-- two inserts have different tickets
+abbrev Differ : Worker → Worker → Type 0
+Differ w u = Inserts w → Inserts u → w .ticket ≡ u .ticket → ⊥
+
+-- a state, the entries before it, and the tickets accepted before it
+pub record Spent (s : State) (past : List Entry) (ts : List ℕ) : Type 0 where
+  pub rising : Rising 0 ts
+  pub most : (t : ℕ) → In t ts → t ≤ s .floor .last
+  pub accepted : (i : ℕ) → Inserts (recordOf s i) → In (recordOf s i .ticket) ts
+  pub differ : (i j : ℕ) → (i ≡ j → ⊥) → Differ (recordOf s i) (recordOf s j)
+  -- the ticket of an insert that waits was stored by no turn
+  pub waits : (i : ℕ) → Waits (recordOf s i) → None (StoresTicket (recordOf s i .ticket)) past
+  -- what a turn stored is an accepted ticket, and was stored by no turn before it
+  pub stored : (before : List Entry) (e : Entry) (later : List Entry) → past ≡ before ++ (e ∷ later) → Stores e → In (e .was .ticket) ts
+  pub once :
+      (before : List Entry) (e : Entry) (later : List Entry)
+      → past ≡ before ++ (e ∷ later)
+      → Stores e
+      → None (StoresTicket (e .was .ticket)) before
+
+-- what holds of a new record beside each old one, and of each two old ones, holds of each two
+module _ (s t : State) (i : ℕ) (v : Worker) (records : t .records ≡ set (s .records) i v) (within : i < length (s .records)) where
+  each : (P : ℕ → Worker → Type 0) → P i v → ((j : ℕ) → (j ≡ i → ⊥) → P j (recordOf s j)) → (j : ℕ) → P j (recordOf t j)
+  each P = each-worker (view s) (view t) i v records P within
+
+  each-differ :
+      ((j : ℕ) → (j ≡ i → ⊥) → Differ v (recordOf s j))
+      → ((k j : ℕ) → (k ≡ j → ⊥) → Differ (recordOf s k) (recordOf s j))
+      → (k j : ℕ)
+      → (k ≡ j → ⊥)
+      → Differ (recordOf t k) (recordOf t j)
+  each-differ mine old =
+      each (λ (k : ℕ) (w : Worker). (j : ℕ) → (k ≡ j → ⊥) → Differ w (recordOf t j))
+      (each (λ (j : ℕ) (w : Worker). (i ≡ j → ⊥) → Differ v w) (λ same. absurd (same refl)) (λ j other differ. mine j other))
+      (λ k other. each (λ (j : ℕ) (w : Worker). (k ≡ j → ⊥) → Differ (recordOf s k) w)
+      (λ differ first second same. mine k other second first (sym same)) (λ j another differ. old k j differ))
+
+-- ---- a start
+
+-- the tickets and the last one after a start of v, from those before it
+record Grows (old : ℕ) (v : Worker) (ts us : List ℕ) (new : ℕ) : Type 0 where
+  rising : Rising 0 us
+  most : (t : ℕ) → In t us → t ≤ new
+  more : (t : ℕ) → In t ts → In t us
+  own : Inserts v → In (v .ticket) us
+  over : Inserts v → old < v .ticket
+
+grows :
+    (old new : ℕ) (v : Worker) (ts spent : List ℕ)
+    → Rising 0 ts
+    → ((t : ℕ) → In t ts → t ≤ old)
+    → Spends old v spent new
+    → Grows old v ts (ts ++ spent) new
+grows old new v ts spent rising most (unticketed other none same) =
+    rw (none, append-nil ts, same)
+    (record { rising = rising; most = most; more = λ t there. there; own = λ is. absurd (other is); over = λ is. absurd (other is) })
+grows old new v ts spent rising most (ticketed over one same) =
+    rw (one, same)
+    (record {
+      rising = rising-last 0 ts (v .ticket) (omega arith) (λ t there. let under = most t there in omega arith) rising;
+      most = λ t there. by t (in-or-last t ts (v .ticket) there);
+      more = λ t there. in-front t ts (v .ticket ∷ []) there;
+      own = λ is. in-last (v .ticket) ts;
+      over = λ is. over;
+    })
+  where
+    by : (t : ℕ) → In t ts ⊎ (t ≡ v .ticket) → t ≤ v .ticket
+    by t (inl there) = let under = most t there in omega arith
+    by t (inr is) = omega arith
+
+module _ {s t : State} {v : Worker} {spent : List ℕ} (past : List Entry) (ts : List ℕ) (start : Begins s v spent t) (old : Spent s past ts) where
+  abbrev us : List ℕ
+  us = ts ++ spent
+
+  grown : Grows (s .floor .last) v ts us (t .floor .last)
+  grown = grows (s .floor .last) (t .floor .last) v ts spent (old .rising) (old .most) (start .spends)
+
+  -- its ticket is none of those before
+  fresh : Inserts v → In (v .ticket) ts → ⊥
+  fresh insert there = let most = old .most (v .ticket) there in omega (arith, grown .over insert)
+
+  start-spent : Spent t past us
+  start-spent =
+      let i = start .who in
+      let every = each s t i v (start .records) (start .within) in
+      record {
+        rising = grown .rising;
+        most = grown .most;
+        accepted =
+            every (λ (j : ℕ) (w : Worker). Inserts w → In (w .ticket) us) (grown .own) (λ j other insert. grown .more _ (old .accepted j insert));
+        differ =
+            each-differ s t i v (start .records) (start .within)
+            (λ j other first second same. fresh first (subst (λ (n : ℕ). In n ts) (sym same) (old .accepted j second))) (old .differ);
+        waits =
+            every (λ (j : ℕ) (w : Worker). Waits w → None (StoresTicket (w .ticket)) past)
+            (λ waits some. fresh (waits .kind)
+            (subst (λ (n : ℕ). In n ts) (some .holds .1) (old .stored (some .older) (some .entry) (some .newer) (some .cut) (some .holds .0))))
+            (λ j other waits. old .waits j waits);
+        stored = λ before e later cut stores. grown .more _ (old .stored before e later cut stores);
+        once = old .once;
+      }
+
+-- ---- a turn
+
+module _ {s t : State} {e : Entry} (past : List Entry) (ts : List ℕ) (act : Turns s e t) (old : Spent s past ts) where
+  abbrev i : ℕ
+  i = e .worker
+
+  abbrev w : Worker
+  w = e .was
+
+  abbrev v : Worker
+  v = stepOf s e .stepped .worker
+
+  abbrev now : List Entry
+  now = past ++ (e ∷ [])
+
+  -- what was known of the worker's record
+  accepted-was : Inserts w → In (w .ticket) ts
+  accepted-was = rw (act .was) (old .accepted i)
+
+  waits-was : Waits w → None (StoresTicket (w .ticket)) past
+  waits-was = rw (act .was) (old .waits i)
+
+  differ-was : (j : ℕ) → (j ≡ i → ⊥) → Differ w (recordOf s j)
+  differ-was j other = rw (act .was) (old .differ i j (λ is. other (sym is)))
+
+  insert-was : Inserts v → Inserts w
+  insert-was insert = turn-insert _ w (act .ok) insert .0
+
+  same-ticket : Inserts v → v .ticket ≡ w .ticket
+  same-ticket insert = turn-insert _ w (act .ok) insert .1
+
+  -- a worker that stores is an insert with a slot, and waited
+  stores-filled : Stores e → Inserts w × (w .held ≤ 2)
+  stores-filled stores = let place = stores .0 in filled _ w (act .ok) (omega arith) (omega arith)
+
+  stores-waits : Stores e → Waits w
+  stores-waits stores = record { kind = stores-filled stores .0; early = λ some. stores .0 }
+
+  -- where the insert still waits, the turn did not store, and it waited before
+  mine-waits : Waits v → None (StoresTicket (v .ticket)) now
+  mine-waits waits =
+      let none = waits-was (record { kind = insert-was (waits .kind); early = λ some. absurd (turn-waits _ w (act .ok) waits some) }) in
+      rw (same-ticket (waits .kind))
+      (none-last _ past e none (λ stores. turn-waits _ w (act .ok) waits (stores-filled (stores .0) .1)))
+
+  -- another's ticket is not the one that the turn stores
+  others-wait : (j : ℕ) → (j ≡ i → ⊥) → Waits (recordOf s j) → None (StoresTicket (recordOf s j .ticket)) now
+  others-wait j other waits =
+      none-last _ past e (old .waits j waits) (λ stores. differ-was j other (stores-filled (stores .0) .0) (waits .kind) (stores .1))
+
+  stored-then : (before : List Entry) (d : Entry) → CutLast past e before d → Stores d → In (d .was .ticket) ts
+  stored-then before d (last is at) stores =
+      subst (λ (x : Entry). In (x .was .ticket) ts) (sym at) (accepted-was (stores-filled (subst Stores at stores) .0))
+  stored-then before d (sooner rest cut) stores = old .stored before d rest cut stores
+
+  once-then : (before : List Entry) (d : Entry) → CutLast past e before d → Stores d → None (StoresTicket (d .was .ticket)) before
+  once-then before d (last is at) stores = rw (is, at) (waits-was (stores-waits (subst Stores at stores)))
+  once-then before d (sooner rest cut) stores = old .once before d rest cut stores
+
+  turn-spent : Spent t now ts
+  turn-spent =
+      let every = each s t i v (act .records) (act .within) in
+      record {
+        rising = old .rising;
+        most = rw (act .last) (old .most);
+        accepted =
+            every (λ (j : ℕ) (x : Worker). Inserts x → In (x .ticket) ts)
+            (λ insert. rw (same-ticket insert) (accepted-was (insert-was insert))) (λ j other. old .accepted j);
+        differ =
+            each-differ s t i v (act .records) (act .within)
+            (λ j other first second same. differ-was j other (insert-was first) second (sym (same-ticket first) ∙ same)) (old .differ);
+        waits = every (λ (j : ℕ) (x : Worker). Waits x → None (StoresTicket (x .ticket)) now) mine-waits others-wait;
+        stored = λ before d later cut. stored-then before d (cut-last e d later past before cut);
+        once = λ before d later cut. once-then before d (cut-last e d later past before cut);
+      }
+
+-- every accepted start and every turn done keeps what is known of tickets
+pub spent-lasts : Lasts Spent
+spent-lasts = record { begins = start-spent; turns = turn-spent }

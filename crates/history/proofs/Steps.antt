@@ -1,0 +1,176 @@
+-- Histories step by step, over whole states: what holds of an opened board with nothing behind it, and what every accepted start and
+-- every turn that is done keeps, holds after every list of calls. Assumes nothing.
+use Prim.Native.Nat.{ℕ, _<_}
+use mathlib.Core.Bool.{Bool, true, false, cond}
+use mathlib.Core.List.{List, [], _∷_, _++_, map, append-assoc, append-nil}
+use mathlib.Core.Path.{_≡_, refl, sym, subst}
+use native.Mathlib.Omega.{arith}
+use lib.Dec.{eqb}
+use lib.ListN.{length, set, take}
+use lib.Seq.{set-getD}
+use borrow.Author.Tests.{eqb-true, leb-false}
+use Rattle.mark.proofs.Choices.{by-cases}
+use Rattle.turn.specs.declared.Worker.{Worker}
+use Rattle.turn.specs.Worker.{insertKind, lookFor, insertOf, removeOf}
+use Rattle.turn.specs.Places.{Step}
+use Rattle.turn.specs.Places as Places
+use Rattle.turn.specs.Turn.{Turned, After, refusing}
+use Rattle.turn.specs.Turn as Turn
+use Rattle.turn.proofs.Sound.{Accepted}
+use Rattle.engine.specs.declared.Floor.{Floor}
+use Rattle.engine.specs.declared.Started.{Started}
+use Rattle.engine.specs.Board.{bucketAt, withBucket}
+use Rattle.engine.specs.Refusals.{spent, startNumber}
+use Rattle.engine.specs.Calls.{blank, spending, startCall, turned, turnCall}
+use Rattle.engine.proofs.Keeps.{turn-accepted}
+use Rattle.history.specs.Trace.{Entry}
+use Rattle.history.specs.History.{State, Call, look, insert, remove, turn, run, show, count, recordOf, seatOf, runOf}
+use Rattle.history.specs.History.{startedAs, turnedAs, after, entryOf, turnEntry, entries, stateFrom, traceFrom}
+use Rattle.history.specs.Values.{ticketOf, ticketsFrom}
+use Rattle.history.proofs.Starting.{not-refused}
+use Rattle.history.proofs.Acting.{number, done, entry, listed}
+use Rattle.history.proofs.Runs.{run-state, run-trace}
+
+-- ---- a start
+
+-- what the start of v spends where the last ticket was this: nothing, or its own ticket, which becomes the last one
+pub data Spends (last : ℕ) (v : Worker) (spent : List ℕ) (new : ℕ) : Type 0 where
+  unticketed : (v .kind ≡ insertKind → ⊥) → spent ≡ [] → new ≡ last → Spends last v spent new
+  ticketed : last < v .ticket → spent ≡ v .ticket ∷ [] → new ≡ v .ticket → Spends last v spent new
+
+-- an accepted start: a worker's record becomes v, and these tickets are spent
+pub record Begins (s : State) (v : Worker) (spent : List ℕ) (t : State) : Type 0 where
+  pub who : ℕ
+  pub within : who < length (s .records)
+  pub records : t .records ≡ set (s .records) who v
+  pub board : t .board ≡ s .board
+  pub spends : Spends (s .floor .last) v spent (t .floor .last)
+
+-- ---- a turn
+
+-- what a turn that is done did to the bucket and the record
+abbrev pub stepOf : State → Entry → Step
+stepOf s e = Places.turn (bucketAt (s .board) (e .bucket)) (e .was)
+
+-- a turn that is done
+pub record Turns (s : State) (e : Entry) (t : State) : Type 0 where
+  pub ok : Accepted (bucketAt (s .board) (e .bucket)) (e .was)
+  pub within : e .worker < length (s .records)
+  pub was : e .was ≡ recordOf s (e .worker)
+  pub report : e .report ≡ stepOf s e .stepped .report
+  pub records : t .records ≡ set (s .records) (e .worker) (stepOf s e .stepped .worker)
+  pub board : t .board ≡ withBucket (s .board) (e .bucket) (stepOf s e .bucket)
+  pub last : t .floor .last ≡ s .floor .last
+
+module _ (s : State) (i : ℕ) where
+  done-turns : number s i ≡ 0 → Turns s (entry s i) (turnedAs s i (done s i))
+  done-turns none =
+      let known = turn-accepted (s .floor) (s .board) (length (s .records)) i (recordOf s i) none in
+      record {
+        ok = known .1;
+        within = omega (arith, listed s i none, known .2);
+        was = refl;
+        report = refl;
+        records = refl;
+        board = refl;
+        last = refl;
+      }
+
+  -- what holds of a turn that is done, and of nothing done, holds of every turn
+  pub by-turn :
+      (Q : State → List Entry → Type 0)
+      → ((e : Entry) (t : State) → Turns s e t → Q t (e ∷ []))
+      → Q s []
+      → Q (after s (turn i)) (turnEntry s i)
+  unfolding turnCall turned
+  by-turn Q acts same =
+      by-cases (λ (x : After Turned). Q (turnedAs s i x) (entryOf s i (x .handed .answer))) (eqb (number s i) 0) (done s i)
+      (Turn.after (s .board) (refusing (number s i) (recordOf s i)))
+      (λ is. acts (entry s i) (turnedAs s i (done s i)) (done-turns (eqb-true _ 0 is))) (λ isnot. rw (set-getD (s .records) i blank) same)
+
+-- ---- what every step keeps
+
+-- a property of a state, of the entries so far and of the tickets spent so far
+module _ (P : State → List Entry → List ℕ → Type 0) where
+  pub record Lasts : Type 0 where
+    pub begins :
+        {s t : State} {v : Worker} {spent : List ℕ} (past : List Entry) (ts : List ℕ)
+        → Begins s v spent t
+        → P s past ts
+        → P t past (ts ++ spent)
+    pub turns : {s t : State} {e : Entry} (past : List Entry) (ts : List ℕ) → Turns s e t → P s past ts → P t (past ++ (e ∷ [])) ts
+
+  module _ (lasts : Lasts) where
+    start-lasts :
+        (s : State) (i : ℕ) (late : Bool) (v : Worker) (g : Floor) (spent : List ℕ)
+        → (late ≡ false → Spends (s .floor .last) v spent (g .last))
+        → (past : List Entry) (ts : List ℕ)
+        → P s past ts
+        → let x = startCall (s .board) (seatOf s i) (recordOf s i) late v g in
+        P (startedAs s i x) past (ts ++ cond (eqb (x .refusal) 0) spent [])
+    unfolding startCall
+    start-lasts s i late v g spent spends past ts h =
+        let refusal = startNumber (s .floor) (s .board) (length (s .records)) i (recordOf s i) late in
+        by-cases (λ (x : Started). P (startedAs s i x) past (ts ++ cond (eqb (x .refusal) 0) spent [])) (eqb refusal 0) _ _
+        (λ is.
+        let known = not-refused (s .floor) (s .board) (length (s .records)) i (recordOf s i) late (eqb-true _ 0 is) in
+        lasts .begins past ts
+        (record { who = i; within = known .within; records = refl; board = refl; spends = spends (known .early) }) h)
+        (λ isnot. rw (isnot, append-nil ts, set-getD (s .records) i blank) h)
+
+    -- a start without a ticket
+    plain-lasts :
+        (s : State) (i : ℕ) (v : Worker)
+        → (v .kind ≡ insertKind → ⊥)
+        → (past : List Entry) (ts : List ℕ)
+        → P s past ts
+        → P (startedAs s i (startCall (s .board) (seatOf s i) (recordOf s i) false v (s .floor))) past (ts ++ [])
+    plain-lasts s i v other past ts h =
+        let x = startCall (s .board) (seatOf s i) (recordOf s i) false v (s .floor) in
+        subst (λ (us : List ℕ). P (startedAs s i x) past (ts ++ us)) (nothing (eqb (x .refusal) 0))
+        (start-lasts s i false v (s .floor) [] (λ is. unticketed other refl refl) past ts h)
+      where
+        nothing : (t : Bool) → cond {A = List ℕ} t [] [] ≡ []
+        nothing true = refl
+        nothing false = refl
+
+    turn-lasts : (s : State) (i : ℕ) (past : List Entry) (ts : List ℕ) → P s past ts → P (after s (turn i)) (past ++ turnEntry s i) ts
+    turn-lasts s i past ts h =
+        by-turn s i (λ (t : State) (es : List Entry). P t (past ++ es) ts) (λ e t act. lasts .turns past ts act h) (rw (append-nil past) h)
+
+    turns-last :
+        (turns : List ℕ) (s : State) (past : List Entry) (ts : List ℕ)
+        → P s past ts
+        → P (stateFrom s (map turn turns)) (past ++ traceFrom s (map turn turns)) ts
+    unfolding stateFrom traceFrom
+    turns-last [] s past ts h = rw (append-nil past) h
+    turns-last (i ∷ turns) s past ts h =
+        rw (← append-assoc past (turnEntry s i) (traceFrom (after s (turn i)) (map turn turns)))
+        (turns-last turns (after s (turn i)) (past ++ turnEntry s i) ts (turn-lasts s i past ts h))
+
+    run-lasts : (s : State) (turns : List ℕ) (past : List Entry) (ts : List ℕ) → P s past ts → P (after s (run turns)) (past ++ entries s (run turns)) ts
+    run-lasts s turns past ts h =
+        subst (λ (t : State). P t (past ++ entries s (run turns)) ts) (sym (run-state s turns))
+        (rw (run-trace s turns) (turns-last (take (runOf s turns .handed .totals .turns) turns) s past ts h))
+
+    call-lasts : (s : State) (c : Call) (past : List Entry) (ts : List ℕ) → P s past ts → P (after s c) (past ++ entries s c) (ts ++ ticketOf s c)
+    call-lasts s (look i lot) past ts h = rw (append-nil past) (plain-lasts s i (lookFor lot) (omega arith) past ts h)
+    call-lasts s (insert i lot t) past ts h =
+        rw (append-nil past) (start-lasts s i (spent (s .floor) (t .number)) (insertOf lot (t .number)) (spending (s .floor) (t .number)) (t .number ∷ [])
+        (λ early. ticketed (leb-false (t .number) (s .floor .last) early) refl refl) past ts h)
+    call-lasts s (remove i lot) past ts h = rw (append-nil past) (plain-lasts s i (removeOf lot) (omega arith) past ts h)
+    call-lasts s (turn i) past ts h = rw (append-nil ts) (turn-lasts s i past ts h)
+    call-lasts s (run turns) past ts h = rw (append-nil ts) (run-lasts s turns past ts h)
+    call-lasts s (show lot) past ts h = rw (append-nil past, append-nil ts) h
+    call-lasts s count past ts h = rw (append-nil past, append-nil ts) h
+
+    -- what every accepted start and every turn done keeps, calls one after another keep
+    pub calls-last :
+        (cs : List Call) (s : State) (past : List Entry) (ts : List ℕ)
+        → P s past ts
+        → P (stateFrom s cs) (past ++ traceFrom s cs) (ts ++ ticketsFrom s cs)
+    unfolding stateFrom traceFrom ticketsFrom
+    calls-last [] s past ts h = rw (append-nil past, append-nil ts) h
+    calls-last (c ∷ cs) s past ts h =
+        rw (← append-assoc past (entries s c) (traceFrom (after s c) cs), ← append-assoc ts (ticketOf s c) (ticketsFrom (after s c) cs))
+        (calls-last cs (after s c) (past ++ entries s c) (ts ++ ticketOf s c) (call-lasts s c past ts h))

@@ -1,0 +1,109 @@
+-- No value comes back: tickets rise, each is stored once at most, and nothing else is written to a value cell.
+use Prim.Native.Nat.{ℕ, _<_}
+use mathlib.Core.Bool.{cond}
+use mathlib.Core.List.{List, [], _∷_, _++_}
+use mathlib.Core.Logic.{_⊎_}
+use mathlib.Core.Path.{_≡_}
+use lib.Dec.{eqb}
+use Rattle.turn.specs.declared.Action.the-variants.{Store}
+use Rattle.turn.specs.Worker.{ticketPlace}
+use Rattle.turn.specs.Bucket.{cell, valueCell}
+use Rattle.engine.specs.Board.{bucketAt}
+use Rattle.history.specs.Trace.{Entry, Some, None}
+use Rattle.history.specs.History.{State, Opening, Call, look, insert, remove, turn, run, show, count, opened, insertBy}
+use Rattle.history.specs.History.{after, turnEntry, traceFrom, state, trace}
+
+-- the value that stands in a slot of a bucket; what is said of values below needs no bound on either number
+abbrev pub valueAt : State → ℕ → ℕ → ℕ
+valueAt s b p = cell (bucketAt (s .board) b) (valueCell p)
+
+-- a turn that stores its worker's ticket
+abbrev pub Stores : Entry → Type 0
+Stores e = (e .was .place ≡ ticketPlace) × (e .report .action ≡ Store)
+
+-- a turn that stores this ticket
+abbrev pub StoresTicket : ℕ → Entry → Type 0
+StoresTicket t e = Stores e × (e .was .ticket ≡ t)
+
+-- ---- tickets
+
+-- the ticket of an insert that is accepted; no other call has one
+abbrev pub ticketOf : State → Call → List ℕ
+ticketOf s (look i lot) = []
+ticketOf s (insert i lot t) = cond (eqb (insertBy s i lot t .refusal) 0) (t .number ∷ []) []
+ticketOf s (remove i lot) = []
+ticketOf s (turn i) = []
+ticketOf s (run turns) = []
+ticketOf s (show lot) = []
+ticketOf s count = []
+
+-- the tickets that calls from a state spend, in their order
+unfoldable pub ticketsFrom : State → List Call → List ℕ
+ticketsFrom s [] = []
+ticketsFrom s (c ∷ cs) = ticketOf s c ++ ticketsFrom (after s c) cs
+
+-- the tickets of the inserts that were accepted, in the order of their starts
+abbrev pub tickets : Opening → List Call → List ℕ
+tickets o calls = ticketsFrom (opened o) calls
+
+-- the first number is greater than this one, and each other greater than the one before it
+abbrev pub Rising : ℕ → List ℕ → Type 0
+Rising low [] = Unit {0}
+Rising low (t ∷ ts) = (low < t) × Rising t ts
+
+-- a number stands in a list
+abbrev pub In : ℕ → List ℕ → Type 0
+In t [] = ⊥
+In t (u ∷ us) = (t ≡ u) ⊎ In t us
+
+-- ---- what holds after every opening and every list of calls
+
+pub record NoValueComesBack (o : Opening) (calls : List Call) : Type 0 where
+  -- the accepted tickets rise, from 1 at least
+  pub rising : Rising 0 (tickets o calls)
+  -- the ticket that a turn stores is one of the accepted ones
+  pub stores-ticket :
+      (before : List Entry) (e : Entry) (later : List Entry)
+      → trace o calls ≡ before ++ (e ∷ later)
+      → Stores e
+      → In (e .was .ticket) (tickets o calls)
+  -- no turn stores a ticket that a turn before it stored
+  pub stored-once :
+      (before : List Entry) (e : Entry) (later : List Entry)
+      → trace o calls ≡ before ++ (e ∷ later)
+      → Stores e
+      → None (StoresTicket (e .was .ticket)) before
+  -- wherever the calls are cut before a turn that stores, no slot of any bucket had its ticket as a value then
+  pub stood-nowhere :
+      (earlier rest : List Call) (before : List Entry) (e : Entry) (later : List Entry)
+      → calls ≡ earlier ++ rest
+      → traceFrom (state o earlier) rest ≡ before ++ (e ∷ later)
+      → Stores e
+      → (b p : ℕ)
+      → valueAt (state o earlier) b p ≡ e .was .ticket
+      → ⊥
+  -- a turn that comes next and stores leaves its ticket as the value of the slot that it holds
+  pub writes :
+      (i : ℕ) (e : Entry)
+      → turnEntry (state o calls) i ≡ e ∷ []
+      → Stores e
+      → valueAt (after (state o calls) (turn i)) (e .bucket) (e .was .held) ≡ e .was .ticket
+  -- a turn that comes next leaves every other value as it was, and all of them where it does not store
+  pub spares :
+      (i : ℕ) (e : Entry)
+      → turnEntry (state o calls) i ≡ e ∷ []
+      → (b p : ℕ)
+      → (Stores e → b ≡ e .bucket → p ≡ e .was .held → ⊥)
+      → valueAt (after (state o calls) (turn i)) b p ≡ valueAt (state o calls) b p
+  -- a value is 0, as the opening left it, or a ticket that a turn stored
+  pub comes-from :
+      (b p : ℕ)
+      → (valueAt (state o calls) b p ≡ 0) ⊎ Some (StoresTicket (valueAt (state o calls) b p)) (trace o calls)
+  -- where a value is not the one after some earlier calls, no slot of any bucket had it then or at any point before
+  pub never-back :
+      (first second third : List Call)
+      → calls ≡ (first ++ second) ++ third
+      → (b p c q : ℕ)
+      → (valueAt (state o calls) b p ≡ valueAt (state o (first ++ second)) b p → ⊥)
+      → valueAt (state o first) c q ≡ valueAt (state o calls) b p
+      → ⊥
