@@ -6,6 +6,7 @@ pub mod Unbroken
 pub mod Unrefused
 pub mod SameSizes
 pub mod Reached
+pub mod ValuesReached
 
 -- what a history is
 pub mod Library
