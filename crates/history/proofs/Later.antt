@@ -4,7 +4,7 @@ use mathlib.Core.List.{List, [], _∷_, _++_, append-assoc, nil≢cons, head-eq-
 use mathlib.Core.Logic.{_⊎_, inl, inr}
 use mathlib.Core.Path.{_≡_, refl, sym, ap, ap₂, subst, _∙_}
 use Rattle.history.specs.Trace.{Entry, Some, None}
-use Rattle.history.specs.Values.{In, Rising}
+use Rattle.history.specs.Numbers.{OneOf, Rising}
 
 -- ---- traces
 
@@ -54,28 +54,28 @@ module _ (P : Entry → Type 0) where
 -- ---- tickets
 
 -- a ticket of the first part of a list stands in the whole
-pub in-front : (t : ℕ) (ts us : List ℕ) → In t ts → In t (ts ++ us)
+pub in-front : (t : ℕ) (ts us : List ℕ) → OneOf ts t → OneOf (ts ++ us) t
 in-front t (u ∷ ts) us (inl is) = inl is
 in-front t (u ∷ ts) us (inr rest) = inr (in-front t ts us rest)
 
 -- the ticket at the end of a list stands in it
-pub in-last : (t : ℕ) (ts : List ℕ) → In t (ts ++ (t ∷ []))
+pub in-last : (t : ℕ) (ts : List ℕ) → OneOf (ts ++ (t ∷ [])) t
 in-last t [] = inl refl
 in-last t (u ∷ ts) = inr (in-last t ts)
 
 -- a ticket of a list with one more is of the list, or that one
-pub in-or-last : (t : ℕ) (ts : List ℕ) (u : ℕ) → In t (ts ++ (u ∷ [])) → In t ts ⊎ (t ≡ u)
+pub in-or-last : (t : ℕ) (ts : List ℕ) (u : ℕ) → OneOf (ts ++ (u ∷ [])) t → OneOf ts t ⊎ (t ≡ u)
 in-or-last t [] u (inl is) = inr is
 in-or-last t (x ∷ ts) u (inl is) = inl (inl is)
 in-or-last t (x ∷ ts) u (inr rest) = by (in-or-last t ts u rest)
   where
-    by : In t ts ⊎ (t ≡ u) → In t (x ∷ ts) ⊎ (t ≡ u)
+    by : OneOf ts t ⊎ (t ≡ u) → OneOf (x ∷ ts) t ⊎ (t ≡ u)
     by (inl there) = inl (inr there)
     by (inr is) = inr is
 
 -- rising numbers still rise with one more that is greater than each of them
 pub rising-last :
-    (low : ℕ) (ts : List ℕ) (u : ℕ) → low < u → ((t : ℕ) → In t ts → t < u) → Rising low ts → Rising low (ts ++ (u ∷ []))
+    (low : ℕ) (ts : List ℕ) (u : ℕ) → low < u → ((t : ℕ) → OneOf ts t → t < u) → Rising low ts → Rising low (ts ++ (u ∷ []))
 rising-last low [] u over above rising = (over, tt)
 rising-last low (t ∷ ts) u over above rising =
     (rising .0, rising-last t ts u (above t (inl refl)) (λ x there. above x (inr there)) (rising .1))

@@ -7,38 +7,32 @@ pub mod Unrefused
 pub mod SameSizes
 pub mod Reached
 pub mod ValuesReached
-
 -- what a history is
 pub mod Library
 pub mod Opened
 pub mod Runs
 pub mod Histories
-
 -- a history as a walk, seen through the mark words, the records and the last ticket
 pub mod View
 pub mod States
 pub mod Starting
 pub mod Acting
 pub mod Walking
-
 -- what holds along every walk
 pub mod Good
 pub mod Held
 pub mod Versions
 pub mod Charges
 pub mod Beginning
-
 -- a worker's word, and its moment
 pub mod Minds
 pub mod Remembers
 pub mod Swaps
-
 -- tickets and values
 pub mod Steps
 pub mod Spent
 pub mod Written
 pub mod Later
-
 -- tools
 pub mod Lawful
 pub mod Counts

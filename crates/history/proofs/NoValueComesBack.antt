@@ -14,7 +14,8 @@ use Rattle.engine.specs.Calls.{blank}
 use Rattle.engine.proofs.Buckets.{length-opened}
 use Rattle.history.specs.Trace.{Entry, Some}
 use Rattle.history.specs.History.{State, Opening, Call, opened, recordOf, stateFrom, traceFrom, state, trace}
-use Rattle.history.specs.Values.{valueAt, Stores, StoresTicket, tickets, In, Rising, NoValueComesBack}
+use Rattle.history.specs.Numbers.{OneOf, Rising}
+use Rattle.history.specs.Values.{valueAt, Stores, StoresTicket, tickets, NoValueComesBack}
 use Rattle.history.proofs.Cuts.{none-nil}
 use Rattle.history.proofs.Histories.{stateFrom-append, traceFrom-append}
 use Rattle.history.proofs.Opened.{opened-is, opened-idle, opened-bucket}
@@ -83,7 +84,7 @@ module _ (o : Opening) where
       by (inr some) = inr some
 
   -- accepted tickets are at least 1
-  positive : (low : ℕ) (ts : List ℕ) → Rising low ts → (t : ℕ) → In t ts → low < t
+  positive : (low : ℕ) (ts : List ℕ) → Rising low ts → (t : ℕ) → OneOf ts t → low < t
   positive low (u ∷ ts) rising t (inl is) = let first = rising .0 in omega arith
   positive low (u ∷ ts) rising t (inr there) = let first = rising .0 in let rest = positive u ts (rising .1) t there in omega arith
 
@@ -105,7 +106,7 @@ module _ (o : Opening) where
 
         by : (valueAt (state o earlier) b p ≡ 0) ⊎ Some (StoresTicket (valueAt (state o earlier) b p)) (trace o earlier) → ⊥
         by (inl none) =
-            let there : In (e .was .ticket) (tickets o (earlier ++ rest)) = known .stored (trace o earlier ++ before) e later (whole cut) stores in
+            let there : OneOf (tickets o (earlier ++ rest)) (e .was .ticket) = known .stored (trace o earlier ++ before) e later (whole cut) stores in
             let some : 0 < e .was .ticket = positive 0 (tickets o (earlier ++ rest)) (known .rising) (e .was .ticket) there in
             omega (arith, stood, none)
         by (inr some) =
@@ -150,9 +151,9 @@ pub no-value-comes-back : (o : Opening) (calls : List Call) → NoValueComesBack
 no-value-comes-back o calls =
     record {
       rising = spent o calls .rising;
-      stores-ticket = spent o calls .stored;
-      stored-once = spent o calls .once;
-      stood-nowhere = λ earlier rest before e later is cut. stood-nowhere o earlier rest before e later cut;
+      stores-ticket = λ at. spent o calls .stored (at .before) (at .turn) (at .after) (at .cut);
+      stored-once = λ at. spent o calls .once (at .before) (at .turn) (at .after) (at .cut);
+      stood-nowhere = λ earlier rest is at. stood-nowhere o earlier rest (at .before) (at .turn) (at .after) (at .cut);
       writes = λ i e is. store-writes (entry-turns (state o calls) i e is);
       spares = λ i e is. turn-spares (entry-turns (state o calls) i e is);
       comes-from = comes-from o calls;

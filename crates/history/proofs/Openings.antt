@@ -1,20 +1,27 @@
 -- Whatever is asked, openings among it, what stands then is what the history since the last accepted opening leaves, and demand 3 holds
 -- of that. Assumes nothing.
 use Prim.Native.Nat.{ℕ, _^_, _<_}
+use mathlib.Core.Bool.{false}
 use mathlib.Core.List.{List, [], _∷_, _++_, append-assoc, append-nil}
 use mathlib.Core.Path.{_≡_, refl, sym, ap, _∙_}
+use native.Mathlib.Omega.{arith}
 use lib.ListN.{length}
+use Rattle.mark.proofs.Choices.{passes}
+use Rattle.engine.specs.declared.Floor.{Floor}
 use Rattle.engine.specs.declared.Plan.{Plan}
-use Rattle.engine.specs.Refusals as Refusals
-use Rattle.engine.specs.Calls as Calls
+use Rattle.engine.specs.Refusals.{wrongSizes, openNumber}
+use Rattle.engine.specs.Calls.{planned}
+use Rattle.engine.proofs.Sizes.{right-sizes, right-listed}
 use Rattle.engine.proofs.Refused.{open-refused}
 use Rattle.history.specs.Trace.{Entry}
 use Rattle.history.specs.Counts.{same}
-use Rattle.history.specs.History.{State, Opening, opened, openedAs, stateFrom, traceFrom}
+use Rattle.history.specs.History.{State, Opening, Call, opened, openedAs, state, stateFrom, traceFrom}
 use Rattle.history.specs.Openings.{Asked, asks, opens, reopenNumber, leaves, turnsOf, leavesAll, turnsOfAll}
 use Rattle.history.specs.Openings.{History, standing, turnsSince, begins, reopened, goesOn, since, AnyOrder}
 use Rattle.history.proofs.Histories.{stateFrom-then, traceFrom-then}
 use Rattle.history.proofs.DemandThree.{demand-three}
+use Rattle.history.proofs.SameSizes.{state-workers, state-buckets}
+use Rattle.history.proofs.Unbroken.{state-unbroken}
 
 -- an opening that is refused leaves everything as it was
 pub opens-refused : (s : State) (plan : Plan) (fits : plan .version < 2 ^ 32) → (reopenNumber s plan ≡ 0 → ⊥) → leaves s (opens plan fits) ≡ s
@@ -74,3 +81,40 @@ any-order o asked =
     let all = all-follow (begins o) [] asked in
     let h = since (begins o) asked in
     record { stands = all .stands; older = all .older; turns = all .turns-are; demand = demand-three (h .opening) (h .calls) }
+
+-- ---- which openings are accepted
+
+-- the test of the sizes goes by the numbers of workers and buckets
+same-sized :
+    (f g : Floor) (board : List ℕ) (listed : ℕ)
+    → f .workers ≡ g .workers
+    → f .buckets ≡ g .buckets
+    → wrongSizes f board listed ≡ wrongSizes g board listed
+unfolding wrongSizes
+same-sized f g board listed workers buckets = rw (workers, buckets)
+
+module _ (o : Opening) (calls : List Call) (plan : Plan) where
+  abbrev s : State
+  s = state o calls
+
+  sized : wrongSizes (s .floor) (s .board) (length (s .records)) ≡ false
+  sized = state-unbroken o calls .sized
+
+  -- on the board and the list of a history an opening is accepted only for as many workers and buckets as there are
+  pub opens-same : reopenNumber s plan ≡ 0 → (plan .workers ≡ o .plan .workers) × (plan .buckets ≡ o .plan .buckets)
+  unfolding openNumber
+  opens-same accepted =
+      let now = passes (wrongSizes (planned plan) (s .board) (length (s .records))) 0 0 accepted .0 in
+      let words = right-sizes (planned plan) (s .board) _ now .words in
+      let was = right-sizes (s .floor) (s .board) _ sized .words in (
+        sym (right-listed (planned plan) (s .board) _ now) ∙ right-listed (s .floor) (s .board) _ sized ∙ state-workers o calls,
+        omega (arith, words, was, state-buckets o calls),
+      )
+
+  -- and for those it is
+  pub same-opens : plan .workers ≡ o .plan .workers → plan .buckets ≡ o .plan .buckets → reopenNumber s plan ≡ 0
+  unfolding openNumber
+  same-opens workers buckets =
+      let same =
+      same-sized (planned plan) (s .floor) (s .board) (length (s .records)) (workers ∙ sym (state-workers o calls)) (buckets ∙ sym (state-buckets o calls)) in
+      rw (same ∙ sized)

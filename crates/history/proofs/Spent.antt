@@ -12,7 +12,8 @@ use Rattle.turn.proofs.Values.{filled}
 use Rattle.turn.proofs.Waits.{Waits, turn-insert, turn-waits}
 use Rattle.history.specs.Trace.{Entry, None}
 use Rattle.history.specs.History.{State, recordOf}
-use Rattle.history.specs.Values.{Stores, StoresTicket, In, Rising}
+use Rattle.history.specs.Numbers.{OneOf, Rising}
+use Rattle.history.specs.Values.{Stores, StoresTicket}
 use Rattle.history.proofs.View.{each-worker}
 use Rattle.history.proofs.States.{view}
 use Rattle.history.proofs.Steps.{Spends, unticketed, ticketed, Begins, Turns, stepOf, Lasts}
@@ -29,13 +30,13 @@ Differ w u = Inserts w → Inserts u → w .ticket ≡ u .ticket → ⊥
 -- a state, the entries before it, and the tickets accepted before it
 pub record Spent (s : State) (past : List Entry) (ts : List ℕ) : Type 0 where
   pub rising : Rising 0 ts
-  pub most : (t : ℕ) → In t ts → t ≤ s .floor .last
-  pub accepted : (i : ℕ) → Inserts (recordOf s i) → In (recordOf s i .ticket) ts
+  pub most : (t : ℕ) → OneOf ts t → t ≤ s .floor .last
+  pub accepted : (i : ℕ) → Inserts (recordOf s i) → OneOf ts (recordOf s i .ticket)
   pub differ : (i j : ℕ) → (i ≡ j → ⊥) → Differ (recordOf s i) (recordOf s j)
   -- the ticket of an insert that waits was stored by no turn
   pub waits : (i : ℕ) → Waits (recordOf s i) → None (StoresTicket (recordOf s i .ticket)) past
   -- what a turn stored is an accepted ticket, and was stored by no turn before it
-  pub stored : (before : List Entry) (e : Entry) (later : List Entry) → past ≡ before ++ (e ∷ later) → Stores e → In (e .was .ticket) ts
+  pub stored : (before : List Entry) (e : Entry) (later : List Entry) → past ≡ before ++ (e ∷ later) → Stores e → OneOf ts (e .was .ticket)
   pub once :
       (before : List Entry) (e : Entry) (later : List Entry)
       → past ≡ before ++ (e ∷ later)
@@ -64,15 +65,15 @@ module _ (s t : State) (i : ℕ) (v : Worker) (records : t .records ≡ set (s .
 -- the tickets and the last one after a start of v, from those before it
 record Grows (old : ℕ) (v : Worker) (ts us : List ℕ) (new : ℕ) : Type 0 where
   rising : Rising 0 us
-  most : (t : ℕ) → In t us → t ≤ new
-  more : (t : ℕ) → In t ts → In t us
-  own : Inserts v → In (v .ticket) us
+  most : (t : ℕ) → OneOf us t → t ≤ new
+  more : (t : ℕ) → OneOf ts t → OneOf us t
+  own : Inserts v → OneOf us (v .ticket)
   over : Inserts v → old < v .ticket
 
 grows :
     (old new : ℕ) (v : Worker) (ts spent : List ℕ)
     → Rising 0 ts
-    → ((t : ℕ) → In t ts → t ≤ old)
+    → ((t : ℕ) → OneOf ts t → t ≤ old)
     → Spends old v spent new
     → Grows old v ts (ts ++ spent) new
 grows old new v ts spent rising most (unticketed other none same) =
@@ -88,7 +89,7 @@ grows old new v ts spent rising most (ticketed over one same) =
       over = λ is. over;
     })
   where
-    by : (t : ℕ) → In t ts ⊎ (t ≡ v .ticket) → t ≤ v .ticket
+    by : (t : ℕ) → OneOf ts t ⊎ (t ≡ v .ticket) → t ≤ v .ticket
     by t (inl there) = let under = most t there in omega arith
     by t (inr is) = omega arith
 
@@ -100,7 +101,7 @@ module _ {s t : State} {v : Worker} {spent : List ℕ} (past : List Entry) (ts :
   grown = grows (s .floor .last) (t .floor .last) v ts spent (old .rising) (old .most) (start .spends)
 
   -- its ticket is none of those before
-  fresh : Inserts v → In (v .ticket) ts → ⊥
+  fresh : Inserts v → OneOf ts (v .ticket) → ⊥
   fresh insert there = let most = old .most (v .ticket) there in omega (arith, grown .over insert)
 
   start-spent : Spent t past us
@@ -111,14 +112,14 @@ module _ {s t : State} {v : Worker} {spent : List ℕ} (past : List Entry) (ts :
         rising = grown .rising;
         most = grown .most;
         accepted =
-            every (λ (j : ℕ) (w : Worker). Inserts w → In (w .ticket) us) (grown .own) (λ j other insert. grown .more _ (old .accepted j insert));
+            every (λ (j : ℕ) (w : Worker). Inserts w → OneOf us (w .ticket)) (grown .own) (λ j other insert. grown .more _ (old .accepted j insert));
         differ =
             each-differ s t i v (start .records) (start .within)
-            (λ j other first second same. fresh first (subst (λ (n : ℕ). In n ts) (sym same) (old .accepted j second))) (old .differ);
+            (λ j other first second same. fresh first (subst (λ (n : ℕ). OneOf ts n) (sym same) (old .accepted j second))) (old .differ);
         waits =
             every (λ (j : ℕ) (w : Worker). Waits w → None (StoresTicket (w .ticket)) past)
             (λ waits some. fresh (waits .kind)
-            (subst (λ (n : ℕ). In n ts) (some .holds .1) (old .stored (some .older) (some .entry) (some .newer) (some .cut) (some .holds .0))))
+            (subst (λ (n : ℕ). OneOf ts n) (some .holds .1) (old .stored (some .older) (some .entry) (some .newer) (some .cut) (some .holds .0))))
             (λ j other waits. old .waits j waits);
         stored = λ before e later cut stores. grown .more _ (old .stored before e later cut stores);
         once = old .once;
@@ -140,7 +141,7 @@ module _ {s t : State} {e : Entry} (past : List Entry) (ts : List ℕ) (act : Tu
   now = past ++ (e ∷ [])
 
   -- what was known of the worker's record
-  accepted-was : Inserts w → In (w .ticket) ts
+  accepted-was : Inserts w → OneOf ts (w .ticket)
   accepted-was = rw (act .was) (old .accepted i)
 
   waits-was : Waits w → None (StoresTicket (w .ticket)) past
@@ -174,9 +175,9 @@ module _ {s t : State} {e : Entry} (past : List Entry) (ts : List ℕ) (act : Tu
   others-wait j other waits =
       none-last _ past e (old .waits j waits) (λ stores. differ-was j other (stores-filled (stores .0) .0) (waits .kind) (stores .1))
 
-  stored-then : (before : List Entry) (d : Entry) → CutLast past e before d → Stores d → In (d .was .ticket) ts
+  stored-then : (before : List Entry) (d : Entry) → CutLast past e before d → Stores d → OneOf ts (d .was .ticket)
   stored-then before d (last is at) stores =
-      subst (λ (x : Entry). In (x .was .ticket) ts) (sym at) (accepted-was (stores-filled (subst Stores at stores) .0))
+      subst (λ (x : Entry). OneOf ts (x .was .ticket)) (sym at) (accepted-was (stores-filled (subst Stores at stores) .0))
   stored-then before d (sooner rest cut) stores = old .stored before d rest cut stores
 
   once-then : (before : List Entry) (d : Entry) → CutLast past e before d → Stores d → None (StoresTicket (d .was .ticket)) before
@@ -190,7 +191,7 @@ module _ {s t : State} {e : Entry} (past : List Entry) (ts : List ℕ) (act : Tu
         rising = old .rising;
         most = rw (act .last) (old .most);
         accepted =
-            every (λ (j : ℕ) (x : Worker). Inserts x → In (x .ticket) ts)
+            every (λ (j : ℕ) (x : Worker). Inserts x → OneOf ts (x .ticket))
             (λ insert. rw (same-ticket insert) (accepted-was (insert-was insert))) (λ j other. old .accepted j);
         differ =
             each-differ s t i v (act .records) (act .within)

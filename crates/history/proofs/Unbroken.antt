@@ -30,7 +30,8 @@ use Rattle.engine.proofs.Turns.{own}
 use Rattle.engine.proofs.Keeps.{Keeps, each-keeps, turn-keeps}
 use Rattle.history.specs.History.{State, Opening, Call, look, insert, remove, turn, run, show, count, opened, recordOf, seatOf, runOf}
 use Rattle.history.specs.History.{startedAs, turnedAs, ranAs, after, stateFrom, state}
-use Rattle.history.specs.Unbroken.{Unbroken, OneOf}
+use Rattle.history.specs.Numbers.{OneOf}
+use Rattle.history.specs.Unbroken.{Unbroken}
 use Rattle.history.proofs.Opened.{opened-is, opened-right, opened-bucket}
 use Rattle.history.proofs.Beginning.{no-mark}
 use Rattle.history.proofs.Starting.{not-refused}

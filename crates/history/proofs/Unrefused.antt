@@ -20,7 +20,8 @@ use Rattle.engine.specs.Refusals.{wrongFloor, wrongSizes, noWorker, bucketFor}
 use Rattle.engine.specs.Refusals.{startNumber, eachNumber, turnNumber, runNumber, showNumber, countNumber}
 use Rattle.engine.proofs.Sizes.{right-sizes}
 use Rattle.history.specs.History.{State, recordOf}
-use Rattle.history.specs.Unbroken.{Unbroken, OneOf}
+use Rattle.history.specs.Numbers.{OneOf}
+use Rattle.history.specs.Unbroken.{Unbroken}
 
 -- ---- one of some numbers
 

@@ -2,8 +2,6 @@
 -- proofs/Unbroken.
 use Prim.Native.Nat.{ℕ, _<_}
 use mathlib.Core.Bool.{false}
-use mathlib.Core.List.{List, [], _∷_}
-use mathlib.Core.Logic.{_⊎_}
 use mathlib.Core.Path.{_≡_}
 use lib.ListN.{length}
 use Rattle.turn.specs.Worker.{broken}
@@ -20,8 +18,3 @@ pub record Unbroken (s : State) : Type 0 where
   pub records : (i : ℕ) → i < s .floor .workers → broken (recordOf s i) ≡ false
   -- no bucket is broken
   pub buckets : (b : ℕ) → b < s .floor .buckets → brokenBucket (bucketAt (s .board) b) ≡ false
-
--- n is one of these numbers
-abbrev pub OneOf : List ℕ → ℕ → Type 0
-OneOf [] n = ⊥
-OneOf (m ∷ ms) n = (n ≡ m) ⊎ OneOf ms n

@@ -1,5 +1,5 @@
 -- No value comes back: tickets rise, each is stored once at most, and nothing else is written to a value cell.
-use Prim.Native.Nat.{ℕ, _<_}
+use Prim.Native.Nat.{ℕ}
 use mathlib.Core.Bool.{cond}
 use mathlib.Core.List.{List, [], _∷_, _++_}
 use mathlib.Core.Logic.{_⊎_}
@@ -9,7 +9,9 @@ use Rattle.turn.specs.declared.Action.the-variants.{Store}
 use Rattle.turn.specs.Worker.{ticketPlace}
 use Rattle.turn.specs.Bucket.{cell, valueCell}
 use Rattle.engine.specs.Board.{bucketAt}
+use Rattle.history.specs.Numbers.{OneOf, Rising}
 use Rattle.history.specs.Trace.{Entry, Some, None}
+use Rattle.history.specs.Moment.{AtTurn}
 use Rattle.history.specs.History.{State, Opening, Call, look, insert, remove, turn, run, show, count, opened, insertBy}
 use Rattle.history.specs.History.{after, turnEntry, traceFrom, state, trace}
 
@@ -46,41 +48,24 @@ ticketsFrom s (c ∷ cs) = ticketOf s c ++ ticketsFrom (after s c) cs
 abbrev pub tickets : Opening → List Call → List ℕ
 tickets o calls = ticketsFrom (opened o) calls
 
--- the first number is greater than this one, and each other greater than the one before it
-abbrev pub Rising : ℕ → List ℕ → Type 0
-Rising low [] = Unit {0}
-Rising low (t ∷ ts) = (low < t) × Rising t ts
+-- ---- the theorem
 
--- a number stands in a list
-abbrev pub In : ℕ → List ℕ → Type 0
-In t [] = ⊥
-In t (u ∷ us) = (t ≡ u) ⊎ In t us
-
--- ---- what holds after every opening and every list of calls
-
+-- what holds after every opening and every list of calls
 pub record NoValueComesBack (o : Opening) (calls : List Call) : Type 0 where
   -- the accepted tickets rise, from 1 at least
   pub rising : Rising 0 (tickets o calls)
   -- the ticket that a turn stores is one of the accepted ones
-  pub stores-ticket :
-      (before : List Entry) (e : Entry) (later : List Entry)
-      → trace o calls ≡ before ++ (e ∷ later)
-      → Stores e
-      → In (e .was .ticket) (tickets o calls)
+  pub stores-ticket : (at : AtTurn (trace o calls)) → Stores (at .turn) → OneOf (tickets o calls) (at .turn .was .ticket)
   -- no turn stores a ticket that a turn before it stored
-  pub stored-once :
-      (before : List Entry) (e : Entry) (later : List Entry)
-      → trace o calls ≡ before ++ (e ∷ later)
-      → Stores e
-      → None (StoresTicket (e .was .ticket)) before
+  pub stored-once : (at : AtTurn (trace o calls)) → Stores (at .turn) → None (StoresTicket (at .turn .was .ticket)) (at .before)
   -- wherever the calls are cut before a turn that stores, no slot of any bucket had its ticket as a value then
   pub stood-nowhere :
-      (earlier rest : List Call) (before : List Entry) (e : Entry) (later : List Entry)
+      (earlier rest : List Call)
       → calls ≡ earlier ++ rest
-      → traceFrom (state o earlier) rest ≡ before ++ (e ∷ later)
-      → Stores e
+      → (at : AtTurn (traceFrom (state o earlier) rest))
+      → Stores (at .turn)
       → (b p : ℕ)
-      → valueAt (state o earlier) b p ≡ e .was .ticket
+      → valueAt (state o earlier) b p ≡ at .turn .was .ticket
       → ⊥
   -- a turn that comes next and stores leaves its ticket as the value of the slot that it holds
   pub writes :

@@ -19,7 +19,7 @@ use Rattle.sheet.specs.declared.Call as Field
 use Rattle.sheet.specs.Play.{Desk, seatAt, asked, callField}
 use Rattle.sheet.proofs.Seats.{asked-is}
 use Rattle.history.specs.Trace.{Entry}
-use Rattle.history.specs.Unbroken.{OneOf}
+use Rattle.history.specs.Numbers.{OneOf}
 use Rattle.history.specs.History.{State, Opening, Call, startedAs, opened, state, trace}
 use Rattle.history.proofs.Starting.{not-refused}
 use Rattle.history.proofs.Histories.{stateFrom-then, traceFrom-then}

@@ -22,7 +22,7 @@ use Rattle.sheet.specs.Line.{refusalLine}
 use Rattle.sheet.specs.Play.{Desk, shutDesk, openField, fieldDone}
 use Rattle.sheet.specs.Listing.{Ending, oneField, fieldsFrom, played, wordsAsked, listing}
 use Rattle.sheet.proofs.Fielding.{first-field}
-use Rattle.history.specs.Unbroken.{OneOf}
+use Rattle.history.specs.Numbers.{OneOf}
 use Rattle.history.specs.History as History
 use Rattle.plays.specs.Points.{Point, Bytes, FloorAccepted, LastLine}
 use Rattle.plays.specs.Points as Points

@@ -16,7 +16,7 @@ use Rattle.sheet.specs.Fields.{readField}
 use Rattle.sheet.specs.Play.{callField, turnAtDesk, turnsIn}
 use Rattle.history.specs.History as History
 use Rattle.history.specs.History.{Call}
-use Rattle.history.specs.Unbroken.{OneOf}
+use Rattle.history.specs.Numbers.{OneOf}
 use Rattle.plays.specs.Points.{Point, Next, goes, over, refused, afterRead, ahead, nextOf, Steps, stays, steps, Bytes}
 use Rattle.plays.specs.Plays.{refusals}
 use Rattle.plays.proofs.Readings.{call-ticket}

@@ -15,7 +15,8 @@ use Rattle.engine.specs.Calls.{recordIn, blank}
 use Rattle.engine.proofs.Sizes.{right-listed}
 use Rattle.sheet.specs.Play.{Desk, seatAt}
 use Rattle.history.specs.History.{State, Opening, Call, recordOf, seatOf, workersOf, state}
-use Rattle.history.specs.Unbroken.{Unbroken, OneOf}
+use Rattle.history.specs.Numbers.{OneOf}
+use Rattle.history.specs.Unbroken.{Unbroken}
 use Rattle.history.proofs.SameSizes.{state-workers}
 use Rattle.history.proofs.Unbroken.{state-unbroken}
 use Rattle.history.proofs.Unrefused.{start-numbers, turn-numbers}

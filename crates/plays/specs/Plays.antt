@@ -11,7 +11,7 @@ use Rattle.sheet.specs.Play.{endedLine}
 use Rattle.sheet.specs.Listing.{played}
 use Rattle.history.specs.Trace.{Entry}
 use Rattle.history.specs.Counts.{lostSwaps, changesIn, fullRounds}
-use Rattle.history.specs.Unbroken.{OneOf}
+use Rattle.history.specs.Numbers.{OneOf}
 use Rattle.history.specs.History.{Opening, Call, workersOf, state, trace, mostLost}
 use Rattle.plays.specs.Points.{Point, Next, refused, nextOf, Steps, FloorAccepted, firstPoint, LastLine}
 
