@@ -43,6 +43,10 @@ module _ (size : Floor → ℕ) (other : (f : Floor) (t : ℕ) → size (spendin
   state-size : (o : Opening) (calls : List Call) → size (state o calls .floor) ≡ size (planned (o .plan))
   state-size o calls = calls-size (opened o) calls ∙ ap (λ (s : State). size (s .floor)) (opened-is o)
 
+-- a call leaves the number of buckets
+pub call-buckets : (s : State) (c : Call) → after s c .floor .buckets ≡ s .floor .buckets
+call-buckets = call-size (λ f. f .buckets) (λ f t. refl)
+
 module _ (o : Opening) (calls : List Call) where
   -- there are always as many workers as the opening's plan has
   pub state-workers : state o calls .floor .workers ≡ o .plan .workers

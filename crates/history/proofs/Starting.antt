@@ -132,13 +132,3 @@ module _ (s : State) (i : ℕ) {late : Bool} {v : Worker} {g : Floor} (fresh : F
       by-cases (λ (x : Started). Walk n (view s) [] (left v * begun 1 x) (view (startedAs s i x))) (eqb number 0) taken refused
       (λ is. recount _ _ (omega arith) (starts (accepted-starts (eqb-true _ 0 is)) stays))
       (λ isnot. rw isnot (recount 0 _ (omega arith) (same-walk n s i)))
-
--- a start keeps the number of buckets, if the floor that it would leave does
-pub start-floor :
-    (s : State) (i : ℕ) (late : Bool) (v : Worker) (g : Floor)
-    → g .buckets ≡ s .floor .buckets
-    → startCall (s .board) (seatOf s i) (recordOf s i) late v g .floor .buckets ≡ s .floor .buckets
-unfolding startCall
-start-floor s i late v g same =
-    let number = startNumber (s .floor) (s .board) (length (s .records)) i (recordOf s i) late in
-    by-cases (λ (x : Started). x .floor .buckets ≡ s .floor .buckets) (eqb number 0) _ _ (λ is. same) (λ isnot. refl)

@@ -1,7 +1,6 @@
 -- Histories reach the turns that the theorem of values speaks of, and a value that changes: the sleeper does, computed turn by turn.
 -- Assumes nothing.
-use Prim.Native.Nat.{ℕ}
-use mathlib.Core.List.{List, [], _∷_}
+use mathlib.Core.List.{[], _∷_}
 use mathlib.Core.Path.{_≡_, refl}
 use lib.ListN.{take}
 use Rattle.history.specs.Trace.{Some}

@@ -13,9 +13,10 @@ use Rattle.history.specs.History.{after, entries, stateFrom, traceFrom, 
 use Rattle.history.proofs.Runs.{run-state, run-trace}
 use Rattle.history.proofs.View.{View, Walk, stays, starts, acts}
 use Rattle.history.proofs.States.{view, recount}
-use Rattle.history.proofs.Starting.{look-fresh, insert-fresh, remove-fresh, start-walk, start-floor}
+use Rattle.history.proofs.Starting.{look-fresh, insert-fresh, remove-fresh, start-walk}
 use Rattle.history.proofs.Acting.{turn-walk}
 use Rattle.history.proofs.Opened.{opened-is}
+use Rattle.history.proofs.SameSizes.{call-buckets}
 
 -- a walk after a walk is one, and their changes add up
 walk-append :
@@ -25,16 +26,6 @@ walk-append (starts start walk) rest = recount _ _ (omega arith) (starts start (
 walk-append (acts act walk) rest = acts act (walk-append walk rest)
 
 -- ---- one call
-
--- no call changes the number of buckets
-call-floor : (s : State) (c : Call) → after s c .floor .buckets ≡ s .floor .buckets
-call-floor s (look i lot) = start-floor s i _ _ _ refl
-call-floor s (insert i lot t) = start-floor s i _ _ _ refl
-call-floor s (remove i lot) = start-floor s i _ _ _ refl
-call-floor s (turn i) = refl
-call-floor s (run turns) = refl
-call-floor s (show lot) = refl
-call-floor s count = refl
 
 -- 2I + R grows by what a start of this kind may change, if it is accepted
 module _ (kind changes : ℕ) where
@@ -88,7 +79,7 @@ module _ (n : ℕ) where
   unfolding traceFrom stateFrom sumFrom
   calls-walk s [] is = stays
   calls-walk s (c ∷ cs) is =
-      recount _ _ (omega arith) (walk-append (call-walk s c is) (calls-walk (after s c) cs (call-floor s c ∙ is)))
+      recount _ _ (omega arith) (walk-append (call-walk s c is) (calls-walk (after s c) cs (call-buckets s c ∙ is)))
 
 -- and so is every history
 pub history-walk :

@@ -2,7 +2,6 @@
 -- to hold where openings stand among the calls is `any-order`, in proofs/Openings.
 use Prim.Native.Nat.{_≤_}
 use mathlib.Core.List.{List}
-use mathlib.Core.Path.{_≡_}
 use Rattle.history.specs.Trace.{Wins, Loses, Swaps, Some, None}
 use Rattle.history.specs.Counts.{lostSwaps}
 use Rattle.history.specs.Moment.{AtTurn, AtMoment, HasMoment, ChangedByAnother, CommittedOrClosedByAnother}

@@ -5,7 +5,7 @@ use mathlib.Core.List.{List, [], _∷_, _++_}
 use mathlib.Core.Logic.{_⊎_}
 use mathlib.Core.Path.{_≡_}
 use Rattle.turn.specs.declared.Worker.{Worker}
-use Rattle.turn.specs.Worker.{readPlace, claimPlace, ticketPlace, commitPlace, freePlace, closePlace}
+use Rattle.turn.specs.Worker.{readPlace, claimPlace, commitPlace, freePlace, closePlace}
 use Rattle.turn.specs.declared.Action.the-variants.{Store, Won, Lost}
 use Rattle.turn.specs.declared.Progress.the-variants.{GoesOn}
 use Rattle.turn.specs.declared.Report.{Report}

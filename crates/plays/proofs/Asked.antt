@@ -2,7 +2,7 @@
 use Prim.Native.Nat.{ℕ, _^_, _<_}
 use mathlib.Core.Bool.{Bool, true, false, cond}
 use mathlib.Core.Path.{_≡_, refl, ap}
-use mathlib.Core.List.{List, []}
+use mathlib.Core.List.{[]}
 use native.Mathlib.Omega.{arith}
 use lib.Dec.{eqb}
 use Rattle.turn.specs.Worker.{lookKind, insertKind}
@@ -10,7 +10,6 @@ use Rattle.engine.specs.declared.Started.{Started}
 use Rattle.engine.specs.Calls.{insertCall}
 use Rattle.sheet.specs.declared.Call as Field
 use Rattle.sheet.specs.Play.{asked}
-use Rattle.history.specs.Trace.{Entry}
 use Rattle.history.specs.History.{State, Call, look, insert, remove, recordOf, seatOf, lookBy, removeBy, startedAs, after, entries}
 use Rattle.plays.specs.Points.{ticketOf, callOf}
 

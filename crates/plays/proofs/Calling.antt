@@ -5,11 +5,10 @@ use mathlib.Core.Path.{_≡_, refl, sym, ap, _∙_}
 use mathlib.Core.List.{List, [], _∷_, _++_, append-nil}
 use native.Mathlib.Omega.{arith}
 use lib.Dec.{eqb}
-use lib.ListN.{length, set, length-set}
-use borrow.Author.Tests.{eqb-true, eqb-false}
+use lib.ListN.{length-set}
+use borrow.Author.Tests.{eqb-true}
 use Rattle.mark.proofs.Choices.{by-cases}
 use Rattle.turn.specs.declared.Worker.{Worker}
-use Rattle.turn.specs.Turn.{After}
 use Rattle.engine.specs.declared.Floor.{Floor}
 use Rattle.engine.specs.declared.Seat.{Seat}
 use Rattle.engine.specs.declared.Started.{Started}

@@ -1,8 +1,8 @@
 -- From every point a play goes on, field by field and turn by turn, to a point where it stops; what is listed is what was listed so far,
 -- and the last line. Assumes nothing.
 use Prim.Native.Nat.{ℕ, zero, suc, _+_, _≤_}
-use mathlib.Core.Bool.{Bool, true, false, cond}
-use mathlib.Core.Path.{_≡_, refl, sym, ap, ap₂, subst, _∙_}
+use mathlib.Core.Bool.{Bool, true, false}
+use mathlib.Core.Path.{_≡_, refl, sym, ap, _∙_}
 use mathlib.Core.List.{List, [], _∷_, _++_, append-assoc}
 use native.Mathlib.Omega.{arith}
 use lib.Dec.{eqb}
@@ -17,12 +17,12 @@ use Rattle.sheet.specs.declared.Read.{Read}
 use Rattle.sheet.specs.declared.Field.the-variants.{Opening, Calling, Turning}
 use Rattle.sheet.specs.declared.Read.the-variants.{Whole, Refused}
 use Rattle.sheet.specs.Fields.{readField}
-use Rattle.sheet.specs.Line.{totalsLine, refusalLine}
-use Rattle.sheet.specs.Play.{Desk, Outcome, seatOf, recordOf, callField, turnListed, turnAtDesk, turnsDone, turnsIn}
+use Rattle.sheet.specs.Line.{refusalLine}
+use Rattle.sheet.specs.Play.{Desk, Outcome, recordOf, callField, turnListed, turnAtDesk, turnsDone, turnsIn}
 use Rattle.sheet.specs.Listing.{Ending, listedFirst, afterField, oneField, fieldsFrom}
 use Rattle.sheet.proofs.Fielding.{later-field, whole-next}
 use Rattle.history.specs.History.{Call, turn}
-use Rattle.plays.specs.Points.{Point, Next, goes, over, refused, callOf, nextOf, Steps, stays, steps, LastLine, totals, refusal}
+use Rattle.plays.specs.Points.{Point, goes, callOf, nextOf, Steps, stays, steps, LastLine, totals, refusal}
 
 -- a turn that is refused leaves the board and the desk, and lists nothing
 turn-refused : (i : ℕ) (s : After Desk) → eqb (turnAtDesk i s .stop) 0 ≡ false → (turnAtDesk i s .left ≡ s) × (turnAtDesk i s .lines ≡ [])

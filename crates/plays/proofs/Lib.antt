@@ -1,6 +1,7 @@
 -- the statements
 pub mod Plays
 pub mod Listings
+pub mod OwnBoard
 pub mod Sleeper
 -- a point stands as the calls so far leave an opened board
 pub mod Points

@@ -1,9 +1,9 @@
 -- No listing has R 3 or R 7, whatever the sheet and the board. Assumes nothing.
-use Prim.Native.Nat.{ℕ, suc, _≤_}
-use mathlib.Core.Bool.{Bool, true, false, cond}
-use mathlib.Core.Path.{_≡_, refl, sym, ap, subst, _∙_}
-use mathlib.Core.List.{List, [], _∷_, _++_}
-use mathlib.Core.Logic.{_⊎_, inl, inr}
+use Prim.Native.Nat.{ℕ, _≤_}
+use mathlib.Core.Bool.{Bool, true, false}
+use mathlib.Core.Path.{_≡_, refl, sym, ap, subst}
+use mathlib.Core.List.{List, [], _∷_}
+use mathlib.Core.Logic.{inl, inr}
 use native.Mathlib.Omega.{arith}
 use lib.Dec.{eqb, ltb}
 use lib.ListN.{length, replicate}
@@ -13,14 +13,12 @@ use Rattle.turn.specs.Turn.{After, after}
 use Rattle.engine.specs.declared.Plan.{Plan}
 use Rattle.engine.specs.Refusals.{wrongSizes, openNumber}
 use Rattle.engine.specs.Calls.{planned}
-use Rattle.sheet.specs.declared.Field.{Field}
 use Rattle.sheet.specs.declared.Field.the-variants.{Opening, Calling, Turning}
 use Rattle.sheet.specs.declared.Read.{Read}
 use Rattle.sheet.specs.declared.Read.the-variants.{Whole, Refused}
 use Rattle.sheet.specs.Fields.{readField}
-use Rattle.sheet.specs.Line.{refusalLine}
-use Rattle.sheet.specs.Play.{Desk, shutDesk, openField, fieldDone}
-use Rattle.sheet.specs.Listing.{Ending, oneField, fieldsFrom, played, wordsAsked, listing}
+use Rattle.sheet.specs.Play.{Desk, shutDesk, openField}
+use Rattle.sheet.specs.Listing.{Ending, fieldsFrom, played, wordsAsked, listing}
 use Rattle.sheet.proofs.Fielding.{first-field}
 use Rattle.history.specs.Numbers.{OneOf}
 use Rattle.history.specs.History as History

@@ -1,6 +1,5 @@
 -- What a sheet plays is a history. Assumes nothing.
 use Prim.Native.Nat.{ℕ, zero, suc, _+_, _≤_}
-use mathlib.Core.Bool.{Bool, true, false}
 use mathlib.Core.Path.{_≡_, refl, sym, ap, ap₂, subst, _∙_}
 use mathlib.Core.List.{List, [], _∷_, _++_, append-assoc}
 use native.Mathlib.Omega.{arith}
@@ -20,10 +19,10 @@ use Rattle.sheet.specs.Play.{Outcome, outcome, deskOf, shutDesk, shutFloor, ope
 use Rattle.sheet.specs.Listing.{fieldsFrom, played}
 use Rattle.sheet.proofs.Fielding.{whole-next}
 use Rattle.history.specs.Trace.{Entry, total}
-use Rattle.history.specs.History.{State, Opening, Call, opened, state, trace, stateFrom, traceFrom}
+use Rattle.history.specs.History.{State, Opening, Call, state, trace, stateFrom, traceFrom}
 use Rattle.history.proofs.Opened.{opened-is}
 use Rattle.history.proofs.DemandThree.{demand-three}
-use Rattle.plays.specs.Points.{Point, Next, goes, over, refused, nextOf, Steps, stays, steps, Bytes, FloorAccepted, firstPoint, LastLine, totals, refusal}
+use Rattle.plays.specs.Points.{Point, goes, over, refused, nextOf, Steps, stays, steps, Bytes, FloorAccepted, firstPoint, LastLine, totals, refusal}
 use Rattle.plays.specs.Plays.{endLines, StartsWith, PlaysHistory}
 use Rattle.plays.proofs.Readings.{floor-version}
 use Rattle.plays.proofs.Ending.{Finishes, comesTo, finish}

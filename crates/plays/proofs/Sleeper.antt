@@ -1,15 +1,13 @@
 -- The sleeper's sheet is one of which the theorems speak, and its listing is computed. Assumes nothing.
-use Prim.Native.Nat.{ℕ, zero, suc, _<_}
-use mathlib.Core.Bool.{Bool, true, false, _&&_, and-eq-true-iff}
+use Prim.Native.Nat.{ℕ, zero, suc}
+use mathlib.Core.Bool.{Bool, true, _&&_, and-eq-true-iff}
 use mathlib.Core.List.{List, [], _∷_}
 use mathlib.Core.Path.{_≡_, refl}
 use native.Mathlib.Omega.{arith}
 use lib.Dec.{ltb}
 use lib.ListN.{replicate}
 use borrow.Author.Tests.{ltb-true}
-use Rattle.engine.specs.Calls as Calls
 use Rattle.sheet.specs.Fields as Fields
-use Rattle.sheet.specs.Fields.{byteAt}
 use Rattle.sheet.specs.Line as Line
 use Rattle.sheet.specs.Play as Play
 use Rattle.sheet.specs.Listing as Listing

@@ -1,7 +1,7 @@
 -- A point of a play that stands as the calls so far leave an opened board: what its worker's seat and record are there. Assumes nothing.
 use Prim.Native.Nat.{ℕ, _≤_, _<_}
-use mathlib.Core.Bool.{Bool, false}
-use mathlib.Core.Path.{_≡_, refl, sym, ap, subst, _∙_}
+use mathlib.Core.Bool.{Bool}
+use mathlib.Core.Path.{_≡_, sym, ap, _∙_}
 use mathlib.Core.List.{List, [], _∷_}
 use native.Mathlib.Decide.{decLe}
 use native.Mathlib.Omega.{arith}
@@ -13,7 +13,7 @@ use Rattle.engine.specs.declared.Floor.{Floor}
 use Rattle.engine.specs.Refusals.{startNumber, eachNumber, turnNumber}
 use Rattle.engine.specs.Calls.{recordIn, blank}
 use Rattle.engine.proofs.Sizes.{right-listed}
-use Rattle.sheet.specs.Play.{Desk, seatAt}
+use Rattle.sheet.specs.Play.{seatAt}
 use Rattle.history.specs.History.{State, Opening, Call, recordOf, seatOf, workersOf, state}
 use Rattle.history.specs.Numbers.{OneOf}
 use Rattle.history.specs.Unbroken.{Unbroken}

@@ -3,7 +3,7 @@ use Prim.Native.Nat.{ℕ, _+_, _<_}
 use mathlib.Core.Path.{_≡_, refl, sym, ap, ap₂, _∙_}
 use mathlib.Core.List.{List, [], _∷_, _++_}
 use native.Mathlib.Omega.{arith}
-use lib.ListN.{length, set, length-set, length-append}
+use lib.ListN.{set, length-set, length-append}
 use Rattle.turn.specs.declared.Worker.{Worker}
 use Rattle.turn.specs.Turn.{Answer, Refused, Done, Turned, After, after, numberOf}
 use Rattle.turn.specs.Places.{Step}
@@ -17,15 +17,13 @@ use Rattle.engine.specs.Calls.{recordIn, tallied, turnDone, turned, turnCall}
 use Rattle.engine.proofs.Keeps.{turn-accepted}
 use Rattle.engine.proofs.Numbers.{turn-number}
 use Rattle.engine.proofs.Tallies.{losses-lost, losses-other, changes-change, changes-other}
-use Rattle.sheet.specs.Play.{Desk, Outcome, outcome, seatAt, recordOf, endedLine, turnListed, turnAtDesk}
+use Rattle.sheet.specs.Play.{Desk, outcome, seatAt, recordOf, endedLine, turnListed, turnAtDesk}
 use Rattle.history.specs.Trace.{Entry, total}
-use Rattle.history.specs.Counts.{isLost, isChange, oneIf, howMany, lostSwaps, changesIn, fullRounds}
-use Rattle.history.specs.History as History
+use Rattle.history.specs.Counts.{isLost, isChange, oneIf}
 use Rattle.history.specs.History.{State, Opening, Call, turn, turnBy, turnedAs, entryOf, opened, state, trace}
 use Rattle.history.proofs.Counts.{one-is, total-append}
 use Rattle.history.proofs.Histories.{stateFrom-then, traceFrom-then}
 use Rattle.plays.specs.Points.{Point}
-use Rattle.plays.specs.Plays.{endLines}
 use Rattle.plays.proofs.Lines.{end-lines-then}
 use Rattle.plays.proofs.Standing.{Stands, seat-same, record-same, records-set}
 

@@ -13,7 +13,7 @@ use Rattle.history.specs.Trace.{Entry}
 use Rattle.history.specs.Counts.{lostSwaps, changesIn, fullRounds}
 use Rattle.history.specs.Numbers.{OneOf}
 use Rattle.history.specs.History.{Opening, Call, workersOf, state, trace, mostLost}
-use Rattle.plays.specs.Points.{Point, Next, refused, nextOf, Steps, FloorAccepted, firstPoint, LastLine}
+use Rattle.plays.specs.Points.{Point, refused, nextOf, Steps, FloorAccepted, firstPoint, LastLine}
 
 -- the E lines of turns that are numbered from n on: one for each that ended its call, with its number, worker, kind and answer
 unfoldable pub endLines : ℕ → List Entry → List ℕ
