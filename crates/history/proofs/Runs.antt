@@ -19,7 +19,7 @@ use Rattle.engine.proofs.Stops.{run-turn-is-turn}
 use Rattle.engine.proofs.Keeps.{turn-keeps}
 use Rattle.engine.proofs.Tallies.{losses-lost, losses-other, changes-change, changes-other}
 use Rattle.history.specs.Trace.{Entry, total}
-use Rattle.history.specs.Counts.{isLost, isChange, lostSwaps, changesIn, fullRounds}
+use Rattle.history.specs.Counts.{isLost, isChange, lostSwaps, changesIn, fullRounds, countsOf}
 use Rattle.history.specs.History.{State, Opening, Call, turn, run, opened, seatOf, recordOf, turnBy, runOf, turnedAs, ranAs, after}
 use Rattle.history.specs.History.{entryOf, andThen, turnEntries, entries, stateFrom, traceFrom, state, trace}
 use Rattle.history.proofs.Counts.{one-is}
@@ -137,6 +137,16 @@ unfolding total
 total-ones [] = refl
 total-ones (e ∷ es) = omega (arith, total-ones es)
 
+-- totals are the counts of a trace, one by one
+pub same-totals :
+    (t : Totals) (es : List Entry)
+    → t .turns ≡ length es
+    → t .changes ≡ changesIn es
+    → t .lost ≡ lostSwaps es
+    → t .full ≡ fullRounds es
+    → t ≡ countsOf es
+same-totals t es turns changes lost full = λ i. record { turns = turns i; changes = changes i; lost = lost i; full = full i }
+
 module _ (s : State) (turns : List ℕ) where
   -- the turns that a run reports are its entries
   pub run-turns : runOf s turns .handed .totals .turns ≡ length (entries s (run turns))
@@ -157,6 +167,10 @@ module _ (s : State) (turns : List ℕ) where
   -- and the reports of a full round
   pub run-full : runOf s turns .handed .totals .full ≡ fullRounds (entries s (run turns))
   run-full = run-count (λ t. t .full) _ (λ e t. refl) refl s turns
+
+  -- so the totals that a run reports are the counts of its entries
+  pub run-totals : runOf s turns .handed .totals ≡ countsOf (entries s (run turns))
+  run-totals = same-totals _ (entries s (run turns)) run-turns run-changes run-lost run-full
 
   -- ---- what it leaves and does
 

@@ -6,10 +6,12 @@ use mathlib.Core.Logic.{_⊎_, inl, inr}
 use mathlib.Core.Path.{_≡_, refl, ap}
 use native.Mathlib.Omega.{arith}
 use lib.Dec.{eqb}
+use lib.ListN.{length}
 use borrow.Author.Tests.{eqb-true, eqb-false}
 use Rattle.turn.specs.declared.Action.{Action}
 use Rattle.turn.specs.declared.Action.the-variants.{Read, Store, Won, Lost}
 use Rattle.turn.specs.Worker.{commitPlace, freePlace, closePlace}
+use Rattle.engine.specs.declared.Totals.{Totals}
 use Rattle.floor.specs.Told.{actionNumber}
 use Rattle.history.specs.Trace.{Entry, Loses, Changes, Commits, Closes, total}
 
@@ -100,3 +102,7 @@ changesIn trace = howMany isChange trace
 -- its full rounds
 abbrev pub fullRounds : List Entry → ℕ
 fullRounds trace = total (λ e. cond (e .report .full) 1 0) trace
+
+-- the totals of a trace: its turns, and the three counts
+abbrev pub countsOf : List Entry → Totals
+countsOf trace = record { turns = length trace; changes = changesIn trace; lost = lostSwaps trace; full = fullRounds trace }

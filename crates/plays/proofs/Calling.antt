@@ -108,10 +108,7 @@ module _ (o : Opening) (done : List Call) (p : Point) (so : Stands o done p) (c 
                 board = rw state-is (so .stands .board);
                 floor = rw state-is;
                 records = rw state-is (records-set o done p so i (x .worker) known);
-                turns = rw trace-is (so .stands .turns);
-                changes = rw trace-is (so .stands .changes);
-                lost = rw trace-is (so .stands .lost);
-                full = rw trace-is (so .stands .full);
+                totals = rw trace-is (so .stands .totals);
                 lines = rw trace-is (append-nil (p .lines) ∙ so .stands .lines);
               };
           long = length-set (d .records) i (x .worker) ∙ so .long;

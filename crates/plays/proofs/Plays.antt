@@ -18,7 +18,8 @@ use Rattle.engine.proofs.Sizes.{right-sizes}
 use Rattle.sheet.specs.Play.{Outcome, outcome, deskOf, shutDesk, shutFloor, openField, turnsDone}
 use Rattle.sheet.specs.Listing.{fieldsFrom, played}
 use Rattle.sheet.proofs.Fielding.{whole-next}
-use Rattle.history.specs.Trace.{Entry, total}
+use Rattle.history.specs.Trace.{total}
+use Rattle.history.specs.Counts.{countsOf}
 use Rattle.history.specs.History.{State, Opening, Call, state, trace, stateFrom, traceFrom}
 use Rattle.history.proofs.Opened.{opened-is}
 use Rattle.history.proofs.DemandThree.{demand-three}
@@ -131,13 +132,9 @@ module _ {sheet board : List ℕ} (f : FloorAccepted sheet board) (bytes : Bytes
       λ n. record { board = openedBoard (f .plan .buckets) (f .plan .version); floor = planned (f .plan); records = replicate n idle } in
       opened-is opening ∙ ap laid (length-replicate (f .plan .workers) idle)
 
-  -- what is counted in no turns
-  nothing : (count : Entry → ℕ) → 0 ≡ total count (trace opening [])
-  unfolding traceFrom total
-  nothing count = refl
-
-  no-turn : (0 ≡ length (trace opening [])) × ([] ≡ endLines 1 (trace opening []))
-  unfolding traceFrom endLines
+  -- no turn is counted, and none listed
+  no-turn : (noTurns ≡ countsOf (trace opening [])) × ([] ≡ endLines 1 (trace opening []))
+  unfolding traceFrom total endLines
   no-turn = (refl, refl)
 
   -- the first point stands as it leaves the board
@@ -149,10 +146,7 @@ module _ {sheet board : List ℕ} (f : FloorAccepted sheet board) (bytes : Bytes
               board = rw (first-is, first-state);
               floor = rw (first-is, first-state);
               records = rw (first-is, first-state) (take-idle (f .plan .workers) 64 few);
-              turns = rw first-is (no-turn .0);
-              changes = rw first-is (nothing _);
-              lost = rw first-is (nothing _);
-              full = rw first-is (nothing _);
+              totals = rw first-is (no-turn .0);
               lines = rw first-is (no-turn .1);
             };
         long = rw first-is (length-replicate 64 idle);
@@ -188,7 +182,7 @@ module _ {sheet board : List ℕ} (f : FloorAccepted sheet board) (bytes : Bytes
           record {
             plan = refl;
             points = λ done p reached. (one-play sheet reached (finishes .reached) (finishes .last), at-point done p reached .stands);
-            bound = λ done p reached. rw (at-point done p reached .stands .lost) (demand-three opening done .bound);
+            bound = λ done p reached. rw (at-point done p reached .stands .totals) (demand-three opening done .bound);
             unbroken =
                 λ done p number offset reached stop.
                 subst (Fine opening sheet bytes done) stop (fine opening sheet bytes done p (at-point done p reached));

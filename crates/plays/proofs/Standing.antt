@@ -58,10 +58,7 @@ module _ (o : Opening) (done : List Call) (p : Point) (so : Stands o done p) whe
               board = so .stands .board;
               floor = so .stands .floor;
               records = so .stands .records;
-              turns = so .stands .turns;
-              changes = so .stands .changes;
-              lost = so .stands .lost;
-              full = so .stands .full;
+              totals = so .stands .totals;
               lines = so .stands .lines;
             };
         long = so .long;

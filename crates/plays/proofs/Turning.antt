@@ -3,7 +3,7 @@ use Prim.Native.Nat.{ℕ, _+_, _<_}
 use mathlib.Core.Path.{_≡_, refl, sym, ap, ap₂, _∙_}
 use mathlib.Core.List.{List, [], _∷_, _++_}
 use native.Mathlib.Omega.{arith}
-use lib.ListN.{set, length-set, length-append}
+use lib.ListN.{length, set, length-set, length-append}
 use Rattle.turn.specs.declared.Worker.{Worker}
 use Rattle.turn.specs.Turn.{Answer, Refused, Done, Turned, After, after, numberOf}
 use Rattle.turn.specs.Places.{Step}
@@ -19,9 +19,10 @@ use Rattle.engine.proofs.Numbers.{turn-number}
 use Rattle.engine.proofs.Tallies.{losses-lost, losses-other, changes-change, changes-other}
 use Rattle.sheet.specs.Play.{Desk, outcome, seatAt, recordOf, endedLine, turnListed, turnAtDesk}
 use Rattle.history.specs.Trace.{Entry, total}
-use Rattle.history.specs.Counts.{isLost, isChange, oneIf}
+use Rattle.history.specs.Counts.{isLost, isChange, oneIf, countsOf}
 use Rattle.history.specs.History.{State, Opening, Call, turn, turnBy, turnedAs, entryOf, opened, state, trace}
 use Rattle.history.proofs.Counts.{one-is, total-append}
+use Rattle.history.proofs.Runs.{same-totals}
 use Rattle.history.proofs.Histories.{stateFrom-then, traceFrom-then}
 use Rattle.plays.specs.Points.{Point}
 use Rattle.plays.proofs.Lines.{end-lines-then}
@@ -122,6 +123,23 @@ module _ (o : Opening) (done : List Call) (p : Point) (so : Stands o done p) (i 
   unfolding total
   counts-on count before after was now = rw trace-is (omega (arith, was, now, total-append count (trace o done) (e ∷ [])))
 
+  -- what the desk counted before it
+  was-counted : d .totals ≡ countsOf (trace o done)
+  was-counted = so .stands .totals
+
+  turns-are : d .totals .turns ≡ length (trace o done)
+  turns-are = ap (λ (n : Totals). n .turns) was-counted
+
+  -- with the turn its totals are the counts of the trace
+  totals-are : t ≡ countsOf (trace o more)
+  totals-are =
+      same-totals t (trace o more) (rw trace-is (omega (arith, turns-are, length-append (trace o done) (e ∷ []))))
+      (counts-on (λ e. oneIf (isChange e)) _ _ (ap (λ (n : Totals). n .changes) was-counted)
+      (ap (λ (n : ℕ). d .totals .changes + n) (one-is (isChange e) _ (changes-change _ _) (changes-other _ _))))
+      (counts-on (λ e. oneIf (isLost e)) _ _ (ap (λ (n : Totals). n .lost) was-counted)
+      (ap (λ (n : ℕ). d .totals .lost + n) (one-is (isLost e) _ (losses-lost _) (losses-other _))))
+      (counts-on _ _ _ (ap (λ (n : Totals). n .full) was-counted) refl)
+
   -- the point after it
   pub turn-stands :
       (field next : ℕ) (ts : List ℕ)
@@ -134,19 +152,10 @@ module _ (o : Opening) (done : List Call) (p : Point) (so : Stands o done p) (i 
               board = rw (desk-turn, state-is);
               floor = rw (desk-turn, state-is) (so .stands .floor);
               records = rw (desk-turn, state-is) (records-set o done p so i (step .stepped .worker) known);
-              turns = rw (desk-turn, trace-is) (omega (arith, so .stands .turns, length-append (trace o done) (e ∷ [])));
-              changes =
-                  rw desk-turn
-                  (counts-on (λ e. oneIf (isChange e)) _ _ (so .stands .changes)
-                  (ap (λ (n : ℕ). d .totals .changes + n) (one-is (isChange e) _ (changes-change _ _) (changes-other _ _))));
-              lost =
-                  rw desk-turn
-                  (counts-on (λ e. oneIf (isLost e)) _ _ (so .stands .lost)
-                  (ap (λ (n : ℕ). d .totals .lost + n) (one-is (isLost e) _ (losses-lost _) (losses-other _))));
-              full = rw desk-turn (counts-on _ _ _ (so .stands .full) refl);
+              totals = rw desk-turn totals-are;
               lines =
                   rw (desk-turn, trace-is)
-                  (ap₂ (λ (l : List ℕ) (n : ℕ). l ++ endedLine (n + 1) i (w .kind) (step .stepped .report .progress)) (so .stands .lines) (so .stands .turns)
+                  (ap₂ (λ (l : List ℕ) (n : ℕ). l ++ endedLine (n + 1) i (w .kind) (step .stepped .report .progress)) (so .stands .lines) turns-are
                   ∙ sym (end-lines-then 1 (trace o done) e));
             };
         long = rw desk-turn (length-set (d .records) i (step .stepped .worker) ∙ so .long);

@@ -3,14 +3,14 @@
 use Prim.Native.Nat.{ℕ, suc, _≤_}
 use mathlib.Core.Path.{_≡_}
 use mathlib.Core.List.{List, [], _∷_, _++_}
-use lib.ListN.{length, take}
+use lib.ListN.{take}
 use Rattle.turn.specs.Turn.{after}
 use Rattle.engine.specs.declared.Totals.{Totals}
 use Rattle.sheet.specs.Line.{totalsLine, refusalLine}
 use Rattle.sheet.specs.Play.{endedLine}
 use Rattle.sheet.specs.Listing.{played}
 use Rattle.history.specs.Trace.{Entry}
-use Rattle.history.specs.Counts.{lostSwaps, changesIn, fullRounds}
+use Rattle.history.specs.Counts.{countsOf}
 use Rattle.history.specs.Numbers.{OneOf}
 use Rattle.history.specs.History.{Opening, Call, workersOf, state, trace, mostLost}
 use Rattle.plays.specs.Points.{Point, refused, nextOf, Steps, FloorAccepted, firstPoint, LastLine}
@@ -26,11 +26,8 @@ pub record StandsAs (o : Opening) (calls : List Call) (p : Point) : Type 0 where
   pub board : p .left .words ≡ state o calls .board
   pub floor : p .left .handed .floor ≡ state o calls .floor
   pub records : take (workersOf o) (p .left .handed .records) ≡ state o calls .records
-  -- the totals are the counts of the trace
-  pub turns : p .left .handed .totals .turns ≡ length (trace o calls)
-  pub changes : p .left .handed .totals .changes ≡ changesIn (trace o calls)
-  pub lost : p .left .handed .totals .lost ≡ lostSwaps (trace o calls)
-  pub full : p .left .handed .totals .full ≡ fullRounds (trace o calls)
+  -- the totals are the counts of the trace: turns, changes, lost swaps, full rounds
+  pub totals : p .left .handed .totals ≡ countsOf (trace o calls)
   -- each line so far is that of a turn that ended its call
   pub lines : p .lines ≡ endLines 1 (trace o calls)
 
