@@ -12,12 +12,12 @@ use borrow.Author.Tests.{eqb-true, leb-false}
 use Rattle.mark.proofs.Choices.{by-cases, passes}
 use Rattle.turn.specs.declared.Worker.{Worker}
 use Rattle.turn.specs.Worker.{broken}
-use Rattle.turn.specs.Bucket.{brokenBucket}
+use Rattle.turn.specs.Bucket.{cell, brokenBucket}
 use Rattle.turn.specs.Places.{rows, stays, turn}
 use Rattle.turn.specs.Turn.{Turned, After, after, refusing, doing}
 use Rattle.turn.proofs.Sound.{Accepted, accepted, accepted-works, ready, whole-not-broken}
 use Rattle.turn.proofs.Works.{works-within, From, among}
-use Rattle.turn.proofs.Cells.{cellOf, touched, turn-long, turn-one-cell}
+use Rattle.turn.proofs.Cells.{cellOf, touched, turn-long, turn-one-cell, turn-one-writing}
 use Rattle.turn.proofs.Kept.{turn-whole, turn-sound}
 use Rattle.engine.specs.declared.Floor.{Floor}
 use Rattle.engine.specs.declared.Seat.{Seat}
@@ -72,6 +72,17 @@ module _ (bucket : List ℕ) (w : Worker) (ok : Accepted bucket w) where
   touched-inside =
       let known = works-within _ _ _ (accepted-works bucket w ok) in
       among Inside 0 14 (w .place) all-inside (omega arith) (omega arith) refl
+
+-- of two accepted buckets that agree in it, it is the same word afterwards: it depends on that word and the worker's record alone
+pub accepted-one-writing :
+    (b c : List ℕ) (w : Worker)
+    → Accepted b w
+    → Accepted c w
+    → cell b (touched w) ≡ cell c (touched w)
+    → cell (turn b w .bucket) (touched w) ≡ cell (turn c w .bucket) (touched w)
+accepted-one-writing b c w one two =
+    let inside = touched-inside b w one in
+    turn-one-writing b c w (omega (arith, inside, one .whole .eight)) (omega (arith, inside, two .whole .eight))
 
 -- ---- what a turn keeps
 

@@ -14,7 +14,7 @@ use Rattle.turn.specs.Effects.{Effect, effectOn}
 use Rattle.turn.proofs.Effects.{SameCall, Moves, reads, goes, again, answers, claims, commits, frees, closes, Went}
 use Rattle.engine.specs.Board.{bucketOf}
 use Rattle.history.specs.Trace.{Entry}
-use Rattle.history.specs.Counts.{loses?, oneIf}
+use Rattle.history.specs.Counts.{lost?, oneIf}
 use Rattle.history.proofs.View.{View, worker, inserting, left, Aware, swapper-aware, Acts, quiet-marks}
 use Rattle.history.proofs.Lawful.{committed, changed}
 use Rattle.history.proofs.Counts.{lossOf, changeOf}
@@ -96,7 +96,7 @@ module _ (n : ℕ) (s : View) (e : Entry) (v : Worker) (t : View) (kept : Kept n
   effect = act .effect
 
   -- the worker of a lost swap was stale
-  lost-stale : (a : Action) → Went (s .marks (e .bucket)) w v a → oneIf (loses? a) ≤ stale n (s .marks) w
+  lost-stale : (a : Action) → Went (s .marks (e .bucket)) w v a → oneIf (lost? a) ≤ stale n (s .marks) w
   lost-stale Read went = omega arith
   lost-stale Store went = omega arith
   lost-stale Won went = omega arith
@@ -108,7 +108,7 @@ module _ (n : ℕ) (s : View) (e : Entry) (v : Worker) (t : View) (kept : Kept n
       omega (arith, is-stale n (s .marks) w (swapper-aware w swapper) differs)
 
   -- a lost swap leaves its worker at place 1
-  lost-again : (a : Action) → Went (s .marks (e .bucket)) w v a → 2 ≤ v .place → oneIf (loses? a) ≡ 0
+  lost-again : (a : Action) → Went (s .marks (e .bucket)) w v a → 2 ≤ v .place → oneIf (lost? a) ≡ 0
   lost-again Read went past = refl
   lost-again Store went past = refl
   lost-again Won went past = refl

@@ -1,9 +1,9 @@
--- Whatever is asked, openings among it, what stands then is what the history since the last accepted opening leaves, and demand 3 holds
--- of that. Assumes nothing.
+-- Whatever is asked, openings among it, what stands then is what the history since the last accepted opening leaves, and the theorems of
+-- histories hold of that. Assumes nothing.
 use Prim.Native.Nat.{ℕ, _^_, _<_}
 use mathlib.Core.Bool.{false}
 use mathlib.Core.List.{List, [], _∷_, _++_, append-assoc, append-nil}
-use mathlib.Core.Path.{_≡_, refl, sym, ap, _∙_}
+use mathlib.Core.Path.{_≡_, refl, sym, ap, subst, _∙_}
 use native.Mathlib.Omega.{arith}
 use lib.ListN.{length}
 use Rattle.mark.proofs.Choices.{passes}
@@ -15,12 +15,14 @@ use Rattle.engine.proofs.Sizes.{right-sizes, right-listed}
 use Rattle.engine.proofs.Refused.{open-refused}
 use Rattle.history.specs.Trace.{Entry}
 use Rattle.history.specs.Counts.{same}
+use Rattle.history.specs.Unbroken.{Unbroken}
 use Rattle.history.specs.History.{State, Opening, Call, opened, openedAs, state, stateFrom, traceFrom}
-use Rattle.history.specs.Openings.{Asked, asks, opens, reopenNumber, leaves, turnsOf, leavesAll, turnsOfAll}
-use Rattle.history.specs.Openings.{History, standing, turnsSince, begins, reopened, goesOn, since, AnyOrder}
+use Rattle.history.specs.Openings.{Asked, asks, opens, reopenNumber, leaves, turnsBy, leavesAll, turnsByAll}
+use Rattle.history.specs.Openings.{History, stateSince, turnsSince, fromOpening, reopened, goesOn, since, AnyOrder}
 use Rattle.history.proofs.Histories.{stateFrom-then, traceFrom-then}
 use Rattle.history.proofs.DemandThree.{demand-three}
 use Rattle.history.proofs.SameSizes.{state-workers, state-buckets}
+use Rattle.history.proofs.NoValueComesBack.{no-value-comes-back}
 use Rattle.history.proofs.Unbroken.{state-unbroken}
 
 -- an opening that is refused leaves everything as it was
@@ -29,13 +31,13 @@ opens-refused s plan fits refused = ap openedAs (open-refused (s .board) (s .flo
 
 -- the turns done before, and those of the history: together these
 pub record Follows (before : List Entry) (h : History) (s : State) (turns : List Entry) : Type 0 where
-  pub stands : s ≡ standing h
+  pub stands : s ≡ stateSince h
   pub older : List Entry
   pub turns-are : before ++ turns ≡ older ++ turnsSince h
 
 module _ (h : History) (before : List Entry) where
   -- one thing more is asked
-  goes-on : (a : Asked) → Follows (before ++ turnsSince h) (goesOn h a) (leaves (standing h) a) (turnsOf (standing h) a)
+  goes-on : (a : Asked) → Follows (before ++ turnsSince h) (goesOn h a) (leaves (stateSince h) a) (turnsBy (stateSince h) a)
   unfolding stateFrom traceFrom
   goes-on (asks c) =
       record {
@@ -46,20 +48,20 @@ module _ (h : History) (before : List Entry) where
             ∙ ap (λ (es : List Entry). before ++ es)
             (sym (traceFrom-then (opened (h .opening)) (h .calls) c));
       }
-  goes-on (opens plan fits) = by (same (reopenNumber (standing h) plan) 0)
+  goes-on (opens plan fits) = by (same (reopenNumber (stateSince h) plan) 0)
     where
       by :
-          (d : Dec (reopenNumber (standing h) plan ≡ 0))
-          → Follows (before ++ turnsSince h) (reopened h plan fits d) (leaves (standing h) (opens plan fits)) []
+          (d : Dec (reopenNumber (stateSince h) plan ≡ 0))
+          → Follows (before ++ turnsSince h) (reopened h plan fits d) (leaves (stateSince h) (opens plan fits)) []
       by (yes accepted) = record { stands = refl; older = before ++ turnsSince h; turns-are = refl }
       by (no refused) =
-          record { stands = opens-refused (standing h) plan fits refused; older = before; turns-are = append-nil (before ++ turnsSince h) }
+          record { stands = opens-refused (stateSince h) plan fits refused; older = before; turns-are = append-nil (before ++ turnsSince h) }
 
 -- all that is asked
 all-follow :
     (h : History) (before : List Entry) (asked : List Asked)
-    → Follows (before ++ turnsSince h) (since h asked) (leavesAll (standing h) asked) (turnsOfAll (standing h) asked)
-unfolding since leavesAll turnsOfAll
+    → Follows (before ++ turnsSince h) (since h asked) (leavesAll (stateSince h) asked) (turnsByAll (stateSince h) asked)
+unfolding since leavesAll turnsByAll
 all-follow h before [] = record { stands = refl; older = before; turns-are = append-nil (before ++ turnsSince h) }
 all-follow h before (a ∷ asked) =
     let one = goes-on h before a in
@@ -68,19 +70,26 @@ all-follow h before (a ∷ asked) =
       stands = ap (λ (s : State). leavesAll s asked) (one .stands) ∙ rest .stands;
       older = rest .older;
       turns-are =
-          sym (append-assoc (before ++ turnsSince h) (turnsOf (standing h) a) _)
-          ∙ ap (λ (es : List Entry). es ++ turnsOfAll (leaves (standing h) a) asked) (one .turns-are)
-          ∙ ap (λ (s : State). (one .older ++ turnsSince (goesOn h a)) ++ turnsOfAll s asked) (one .stands)
+          sym (append-assoc (before ++ turnsSince h) (turnsBy (stateSince h) a) _)
+          ∙ ap (λ (es : List Entry). es ++ turnsByAll (leaves (stateSince h) a) asked) (one .turns-are)
+          ∙ ap (λ (s : State). (one .older ++ turnsSince (goesOn h a)) ++ turnsByAll s asked) (one .stands)
           ∙ rest .turns-are;
     }
 
--- demand 3, under any order of calls with openings among them
+-- the theorems of histories, under any order of calls with openings among them
 pub any-order : (o : Opening) (asked : List Asked) → AnyOrder o asked
 unfolding stateFrom traceFrom
 any-order o asked =
-    let all = all-follow (begins o) [] asked in
-    let h = since (begins o) asked in
-    record { stands = all .stands; older = all .older; turns = all .turns-are; demand = demand-three (h .opening) (h .calls) }
+    let all = all-follow (fromOpening o) [] asked in
+    let h = since (fromOpening o) asked in
+    record {
+      stands = all .stands;
+      older = all .older;
+      turns = all .turns-are;
+      demand = demand-three (h .opening) (h .calls);
+      values = no-value-comes-back (h .opening) (h .calls);
+      unbroken = subst Unbroken (sym (all .stands)) (state-unbroken (h .opening) (h .calls));
+    }
 
 -- ---- which openings are accepted
 

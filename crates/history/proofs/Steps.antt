@@ -26,7 +26,7 @@ use Rattle.engine.proofs.Keeps.{turn-accepted}
 use Rattle.history.specs.Trace.{Entry}
 use Rattle.history.specs.History.{State, Call, look, insert, remove, turn, run, show, count, recordOf, seatOf, runOf}
 use Rattle.history.specs.History.{startedAs, turnedAs, after, entryOf, turnEntry, entries, stateFrom, traceFrom}
-use Rattle.history.specs.Values.{ticketOf, ticketsFrom}
+use Rattle.history.specs.Values.{spentBy, ticketsFrom}
 use Rattle.history.proofs.Starting.{not-refused}
 use Rattle.history.proofs.Acting.{number, done, entry, listed}
 use Rattle.history.proofs.Runs.{run-state, run-trace}
@@ -153,7 +153,7 @@ module _ (P : State → List Entry → List ℕ → Type 0) where
         subst (λ (t : State). P t (past ++ entries s (run turns)) ts) (sym (run-state s turns))
         (rw (run-trace s turns) (turns-last (take (runOf s turns .handed .totals .turns) turns) s past ts h))
 
-    call-lasts : (s : State) (c : Call) (past : List Entry) (ts : List ℕ) → P s past ts → P (after s c) (past ++ entries s c) (ts ++ ticketOf s c)
+    call-lasts : (s : State) (c : Call) (past : List Entry) (ts : List ℕ) → P s past ts → P (after s c) (past ++ entries s c) (ts ++ spentBy s c)
     call-lasts s (look i lot) past ts h = rw (append-nil past) (plain-lasts s i (lookFor lot) (omega arith) past ts h)
     call-lasts s (insert i lot t) past ts h =
         rw (append-nil past) (start-lasts s i (spent (s .floor) (t .number)) (insertOf lot (t .number)) (spending (s .floor) (t .number)) (t .number ∷ [])
@@ -172,5 +172,5 @@ module _ (P : State → List Entry → List ℕ → Type 0) where
     unfolding stateFrom traceFrom ticketsFrom
     calls-last [] s past ts h = rw (append-nil past, append-nil ts) h
     calls-last (c ∷ cs) s past ts h =
-        rw (← append-assoc past (entries s c) (traceFrom (after s c) cs), ← append-assoc ts (ticketOf s c) (ticketsFrom (after s c) cs))
-        (calls-last cs (after s c) (past ++ entries s c) (ts ++ ticketOf s c) (call-lasts s c past ts h))
+        rw (← append-assoc past (entries s c) (traceFrom (after s c) cs), ← append-assoc ts (spentBy s c) (ticketsFrom (after s c) cs))
+        (calls-last cs (after s c) (past ++ entries s c) (ts ++ spentBy s c) (call-lasts s c past ts h))

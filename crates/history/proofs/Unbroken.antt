@@ -35,7 +35,7 @@ use Rattle.history.specs.Unbroken.{Unbroken}
 use Rattle.history.proofs.Opened.{opened-is, opened-right, opened-bucket}
 use Rattle.history.proofs.Beginning.{no-mark}
 use Rattle.history.proofs.Starting.{not-refused}
-use Rattle.history.proofs.Unrefused.{one-not-none, each-numbers, run-numbers}
+use Rattle.history.proofs.Unrefused.{each-numbers, run-numbers}
 
 -- ---- the opening
 
@@ -47,7 +47,7 @@ empty-unbroken v fits =
     (record { eight = refl; formed = well-formed v (λ i slot. omega (arith, no-mark v fits i)) (omega arith); spare = refl })
 
 -- an opening leaves nothing broken, whatever it was lent
-pub opened-unbroken : (o : Opening) → Unbroken (opened o)
+opened-unbroken : (o : Opening) → Unbroken (opened o)
 unfolding openNumber wrongSizes
 opened-unbroken o =
     let n = length (o .lent .records) in
@@ -166,18 +166,10 @@ module _ (s : State) (ok : Unbroken s) (turns : List ℕ) where
       whole some (inl none) = absurd (some none)
       whole some (inr (inl is)) = inl is
 
-  -- no run stops by 3, a broken record
-  pub never-run-3 : runOf s turns .handed .stop ≡ 3 → ⊥
-  never-run-3 = one-not-none (9 ∷ 0 ∷ 2 ∷ 6 ∷ []) _ 3 refl run-stops-by
-
-  -- no run stops by 7, a broken bucket
-  pub never-run-7 : runOf s turns .handed .stop ≡ 7 → ⊥
-  never-run-7 = one-not-none (9 ∷ 0 ∷ 2 ∷ 6 ∷ []) _ 7 refl run-stops-by
-
 -- ---- any call
 
 -- every call keeps a state unbroken, accepted or refused
-pub after-unbroken : (s : State) (c : Call) → Unbroken s → Unbroken (after s c)
+after-unbroken : (s : State) (c : Call) → Unbroken s → Unbroken (after s c)
 after-unbroken s (look i lot) ok = start-unbroken s ok i false (lookFor lot) (s .floor) refl refl (λ early. look-kept lot)
 after-unbroken s (insert i lot t) ok =
     start-unbroken s ok i _ _ _ refl refl (λ early. insert-kept lot (t .number) (omega (arith, leb-false (t .number) (s .floor .last) early)))

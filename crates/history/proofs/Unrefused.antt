@@ -25,17 +25,6 @@ use Rattle.history.specs.Unbroken.{Unbroken}
 
 -- ---- one of some numbers
 
--- whether k is none of these numbers
-abbrev pub isNone : List ℕ → ℕ → Bool
-isNone [] k = true
-isNone (m ∷ ms) k = not (eqb k m) && isNone ms k
-
--- a number that is one of these is no number that is none of them
-pub one-not-none : (ms : List ℕ) (n k : ℕ) → isNone ms k ≡ true → OneOf ms n → n ≡ k → ⊥
-one-not-none [] n k none one is = one
-one-not-none (m ∷ ms) n k none (inl here) is = eqb-false k m (not-true _ (and-eq-true-iff _ (isNone ms k) .0 none .0)) (sym is ∙ here)
-one-not-none (m ∷ ms) n k none (inr later) is = one-not-none ms n k (and-eq-true-iff (not (eqb k m)) _ .0 none .1) later is
-
 -- a choice between two numbers is one of some, if each is where it is chosen
 either-of : (ms : List ℕ) (t : Bool) (m n : ℕ) → OneOf ms m → (t ≡ false → OneOf ms n) → OneOf ms (cond t m n)
 either-of ms t m n one other = by-cases (OneOf ms) t m n (λ is. one) other
@@ -105,29 +94,3 @@ module _ (s : State) (ok : Unbroken s) where
   pub count-accepted : countNumber (s .floor) (s .board) ≡ 0
   unfolding countNumber
   count-accepted = rw (floor-fits _ _ _ (ok .sized), none-broken (s .board) (s .floor .buckets) (ok .buckets))
-
-  -- ---- 3 and 7
-
-  -- a start is never refused by 3, a broken record
-  pub never-start-3 : (i : ℕ) (late : Bool) → startNumber (s .floor) (s .board) (length (s .records)) i (recordOf s i) late ≡ 3 → ⊥
-  never-start-3 i late = one-not-none (0 ∷ 2 ∷ 4 ∷ 5 ∷ []) _ 3 refl (start-numbers i late)
-
-  -- a start is never refused by 7, a broken bucket
-  pub never-start-7 : (i : ℕ) (late : Bool) → startNumber (s .floor) (s .board) (length (s .records)) i (recordOf s i) late ≡ 7 → ⊥
-  never-start-7 i late = one-not-none (0 ∷ 2 ∷ 4 ∷ 5 ∷ []) _ 7 refl (start-numbers i late)
-
-  -- a turn is never refused by 3, a broken record
-  pub never-turn-3 : (i : ℕ) → turnNumber (s .floor) (s .board) (length (s .records)) i (recordOf s i) ≡ 3 → ⊥
-  never-turn-3 i = one-not-none (0 ∷ 2 ∷ 6 ∷ []) _ 3 refl (turn-numbers i)
-
-  -- a turn is never refused by 7, a broken bucket
-  pub never-turn-7 : (i : ℕ) → turnNumber (s .floor) (s .board) (length (s .records)) i (recordOf s i) ≡ 7 → ⊥
-  never-turn-7 i = one-not-none (0 ∷ 2 ∷ 6 ∷ []) _ 7 refl (turn-numbers i)
-
-  -- a show is never refused by 7, a broken bucket
-  pub never-show-7 : (lot : ℕ) → showNumber (s .floor) (s .board) lot ≡ 7 → ⊥
-  never-show-7 lot is = omega (arith, is, show-accepted lot)
-
-  -- a count is never refused by 7, a broken bucket
-  pub never-count-7 : countNumber (s .floor) (s .board) ≡ 7 → ⊥
-  never-count-7 is = omega (arith, is, count-accepted)

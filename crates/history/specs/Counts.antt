@@ -26,25 +26,25 @@ same m n = by (eqb m n) refl
     by false isnot = no (eqb-false m n isnot)
 
 -- whether an action is a store
-abbrev pub stores? : (a : Action) → Dec (a ≡ Store)
-stores? Read = no (λ is. omega (arith, ap actionNumber is))
-stores? Store = yes refl
-stores? Won = no (λ is. omega (arith, ap actionNumber is))
-stores? Lost = no (λ is. omega (arith, ap actionNumber is))
+abbrev pub store? : (a : Action) → Dec (a ≡ Store)
+store? Read = no (λ is. omega (arith, ap actionNumber is))
+store? Store = yes refl
+store? Won = no (λ is. omega (arith, ap actionNumber is))
+store? Lost = no (λ is. omega (arith, ap actionNumber is))
 
 -- whether it is a won swap
-abbrev pub wins? : (a : Action) → Dec (a ≡ Won)
-wins? Read = no (λ is. omega (arith, ap actionNumber is))
-wins? Store = no (λ is. omega (arith, ap actionNumber is))
-wins? Won = yes refl
-wins? Lost = no (λ is. omega (arith, ap actionNumber is))
+abbrev pub won? : (a : Action) → Dec (a ≡ Won)
+won? Read = no (λ is. omega (arith, ap actionNumber is))
+won? Store = no (λ is. omega (arith, ap actionNumber is))
+won? Won = yes refl
+won? Lost = no (λ is. omega (arith, ap actionNumber is))
 
 -- whether it is a lost swap
-abbrev pub loses? : (a : Action) → Dec (a ≡ Lost)
-loses? Read = no (λ is. omega (arith, ap actionNumber is))
-loses? Store = no (λ is. omega (arith, ap actionNumber is))
-loses? Won = no (λ is. omega (arith, ap actionNumber is))
-loses? Lost = yes refl
+abbrev pub lost? : (a : Action) → Dec (a ≡ Lost)
+lost? Read = no (λ is. omega (arith, ap actionNumber is))
+lost? Store = no (λ is. omega (arith, ap actionNumber is))
+lost? Won = no (λ is. omega (arith, ap actionNumber is))
+lost? Lost = yes refl
 
 -- whether both hold
 abbrev pub both? : {A B : Type 0} → Dec A → Dec B → Dec (A × B)
@@ -66,19 +66,19 @@ either? {A} {B} (no a) (no b) = no neither
 
 -- whether an entry is a lost swap
 abbrev pub isLost : (e : Entry) → Dec (Loses e)
-isLost e = loses? (e .report .action)
+isLost e = lost? (e .report .action)
 
 -- whether it is a change
 abbrev pub isChange : (e : Entry) → Dec (Changes e)
-isChange e = either? (wins? (e .report .action)) (both? (same (e .was .place) freePlace) (stores? (e .report .action)))
+isChange e = either? (won? (e .report .action)) (both? (same (e .was .place) freePlace) (store? (e .report .action)))
 
 -- whether it is a commit
 abbrev pub isCommit : (e : Entry) → Dec (Commits e)
-isCommit e = both? (same (e .was .place) commitPlace) (wins? (e .report .action))
+isCommit e = both? (same (e .was .place) commitPlace) (won? (e .report .action))
 
 -- whether it is a close
 abbrev pub isClose : (e : Entry) → Dec (Closes e)
-isClose e = both? (same (e .was .place) closePlace) (wins? (e .report .action))
+isClose e = both? (same (e .was .place) closePlace) (won? (e .report .action))
 
 -- ---- counts
 

@@ -9,7 +9,7 @@ use Rattle.history.specs.History.{Opening, Call, trace, mostLost}
 
 -- what is demanded of an opening and the calls since
 pub record DemandThree (o : Opening) (calls : List Call) : Type 0 where
-  -- a swap, won or lost, has a moment: the last turn of its worker that read the mark word whole or changed it
+  -- a swap, won or lost, has a moment, in its bucket and in its call: the last turn of its worker that read the mark word whole or changed it
   pub moment : (at : AtTurn (trace o calls)) → Swaps (at .turn) → HasMoment (at .before) (at .turn)
   -- a swap loses only if another worker changed that mark word since its moment
   pub loses : (at : AtMoment (trace o calls)) → Loses (at .turn) → Some (ChangedByAnother (at .turn)) (at .between)

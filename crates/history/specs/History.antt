@@ -1,10 +1,11 @@
 -- What "an opened board" means: "that board, records and floor come from one opening and have since gone only through the engine, each
 -- call taking what the one before left". A history is that opening and any list of calls, accepted or refused. Quotations are
 -- document 01's; what each call does is said in the engine's Calls, and nowhere else.
-use Prim.Native.Nat.{ℕ, _+_, _-_, _*_, _^_, _<_}
+use Prim.Native.Nat.{ℕ, _+_, _-_, _*_, _%_, _^_, _<_}
 use mathlib.Core.Bool.{cond}
 use mathlib.Core.List.{List, [], _∷_, _++_}
 use mathlib.Core.Path.{_≡_}
+use native.Mathlib.Omega.{arith}
 use lib.Dec.{eqb}
 use lib.ListN.{length, set}
 use Rattle.turn.specs.declared.Worker.{Worker}
@@ -61,6 +62,10 @@ opened o = openedAs (openCall (o .lent .board) (o .lent .floor) (o .lent .record
 pub record Ticket : Type 0 where
   pub number : ℕ
   pub fits : number < 2 ^ 32
+
+-- the ticket that stands in the low 32 bits of a number
+abbrev pub ticket : ℕ → Ticket
+ticket n = record { number = n % 2 ^ 32; fits = omega arith }
 
 -- the calls of the library on an opened board, with any numbers
 pub data Call : Type 0 where

@@ -11,6 +11,8 @@ use Rattle.history.specs.Trace.{Entry}
 use Rattle.history.specs.Counts.{same}
 use Rattle.history.specs.History.{State, Opening, Call, opened, openedAs, after, entries, state, trace}
 use Rattle.history.specs.Demand.{DemandThree}
+use Rattle.history.specs.Values.{NoValueComesBack}
+use Rattle.history.specs.Unbroken.{Unbroken}
 
 -- whatever may be asked of the library, with any numbers
 pub data Asked : Type 0 where
@@ -29,9 +31,9 @@ leaves s (asks c) = after s c
 leaves s (opens plan fits) = openedAs (openCall (s .board) (s .floor) (s .records) (length (s .records)) plan)
 
 -- the turns that it does
-abbrev pub turnsOf : State → Asked → List Entry
-turnsOf s (asks c) = entries s c
-turnsOf s (opens plan fits) = []
+abbrev pub turnsBy : State → Asked → List Entry
+turnsBy s (asks c) = entries s c
+turnsBy s (opens plan fits) = []
 
 -- the state after all that was asked
 unfoldable pub leavesAll : State → List Asked → State
@@ -39,9 +41,9 @@ leavesAll s [] = s
 leavesAll s (a ∷ more) = leavesAll (leaves s a) more
 
 -- all turns that were done
-unfoldable pub turnsOfAll : State → List Asked → List Entry
-turnsOfAll s [] = []
-turnsOfAll s (a ∷ more) = turnsOf s a ++ turnsOfAll (leaves s a) more
+unfoldable pub turnsByAll : State → List Asked → List Entry
+turnsByAll s [] = []
+turnsByAll s (a ∷ more) = turnsBy s a ++ turnsByAll (leaves s a) more
 
 -- ---- histories
 
@@ -51,38 +53,46 @@ pub record History : Type 0 where
   pub calls : List Call
 
 -- where it stands
-abbrev pub standing : History → State
-standing h = state (h .opening) (h .calls)
+abbrev pub stateSince : History → State
+stateSince h = state (h .opening) (h .calls)
 
 -- its turns
 abbrev pub turnsSince : History → List Entry
 turnsSince h = trace (h .opening) (h .calls)
 
 -- a history that has just begun
-abbrev pub begins : Opening → History
-begins o = record { opening = o; calls = [] }
+abbrev pub fromOpening : Opening → History
+fromOpening o = record { opening = o; calls = [] }
 
 -- an opening that is accepted begins a new history, and one that is refused leaves the old one
-abbrev pub reopened : (h : History) (plan : Plan) → plan .version < 2 ^ 32 → Dec (reopenNumber (standing h) plan ≡ 0) → History
-reopened h plan fits (yes accepted) = begins (record { lent = standing h; plan = plan; accepted = accepted; version-fits = fits })
+abbrev pub reopened : (h : History) (plan : Plan) → plan .version < 2 ^ 32 → Dec (reopenNumber (stateSince h) plan ≡ 0) → History
+reopened h plan fits (yes accepted) = fromOpening (record { lent = stateSince h; plan = plan; accepted = accepted; version-fits = fits })
 reopened h plan fits (no refused) = h
 
 -- the history after what is asked of it
 abbrev pub goesOn : History → Asked → History
 goesOn h (asks c) = record { opening = h .opening; calls = h .calls ++ (c ∷ []) }
-goesOn h (opens plan fits) = reopened h plan fits (same (reopenNumber (standing h) plan) 0)
+goesOn h (opens plan fits) = reopened h plan fits (same (reopenNumber (stateSince h) plan) 0)
 
 -- after all that was asked: the last opening that was accepted, and the calls since
 unfoldable pub since : History → List Asked → History
 since h [] = h
 since h (a ∷ more) = since (goesOn h a) more
 
--- what is demanded under any order of calls, openings among them
+-- so of an opening and all that was asked after it
+abbrev pub historyOf : Opening → List Asked → History
+historyOf o asked = since (fromOpening o) asked
+
+-- what holds under any order of calls, openings among them
 pub record AnyOrder (o : Opening) (asked : List Asked) : Type 0 where
   -- board, floor and records stand as the history since the last accepted opening leaves them
-  pub stands : leavesAll (opened o) asked ≡ standing (since (begins o) asked)
+  pub stands : leavesAll (opened o) asked ≡ stateSince (historyOf o asked)
   -- the last turns that were done are that history's
   pub older : List Entry
-  pub turns : turnsOfAll (opened o) asked ≡ older ++ turnsSince (since (begins o) asked)
-  -- and demand 3 holds of it
-  pub demand : DemandThree (since (begins o) asked .opening) (since (begins o) asked .calls)
+  pub turns : turnsByAll (opened o) asked ≡ older ++ turnsSince (historyOf o asked)
+  -- demand 3 holds of it
+  pub demand : DemandThree (historyOf o asked .opening) (historyOf o asked .calls)
+  -- no value comes back in it
+  pub values : NoValueComesBack (historyOf o asked .opening) (historyOf o asked .calls)
+  -- and nothing is broken
+  pub unbroken : Unbroken (leavesAll (opened o) asked)

@@ -1,18 +1,13 @@
 -- Trials P6 and P11 of document 01, as the calls of a history. Quotations are document 01's.
-use Prim.Native.Nat.{ℕ, _%_, _^_}
+use Prim.Native.Nat.{ℕ}
 use mathlib.Core.List.{List, [], _∷_, _++_}
-use native.Mathlib.Omega.{arith}
 use lib.ListN.{replicate}
 use Rattle.engine.specs.declared.Plan.{Plan}
-use Rattle.history.specs.History.{Call, insert, remove, run, Ticket}
+use Rattle.history.specs.History.{Call, insert, remove, run, ticket}
 
 -- "Version 0, N 1, unless said.", and so many workers
 abbrev pub planFor : ℕ → Plan
 planFor workers = record { workers = workers; buckets = 1; version = 0 }
-
--- "A ticket is a 32-bit number": the one that stands in the low 32 bits of n
-abbrev pub ticket : ℕ → Ticket
-ticket n = record { number = n % 2 ^ 32; fits = omega arith }
 
 -- "eleven turns of 0", and the like
 abbrev pub turnsOf : ℕ → ℕ → Call

@@ -1,4 +1,5 @@
--- No value comes back: tickets rise, each is stored once at most, and nothing else is written to a value cell.
+-- No value comes back: tickets rise, each is stored once at most, and nothing else is written to a value cell. A state is one between two
+-- calls; one inside a run is such a state too, since a run is its turns called one by one (`runs-are-turns`).
 use Prim.Native.Nat.{ℕ}
 use mathlib.Core.Bool.{cond}
 use mathlib.Core.List.{List, [], _∷_, _++_}
@@ -30,19 +31,19 @@ StoresTicket t e = Stores e × (e .was .ticket ≡ t)
 -- ---- tickets
 
 -- the ticket of an insert that is accepted; no other call has one
-abbrev pub ticketOf : State → Call → List ℕ
-ticketOf s (look i lot) = []
-ticketOf s (insert i lot t) = cond (eqb (insertBy s i lot t .refusal) 0) (t .number ∷ []) []
-ticketOf s (remove i lot) = []
-ticketOf s (turn i) = []
-ticketOf s (run turns) = []
-ticketOf s (show lot) = []
-ticketOf s count = []
+abbrev pub spentBy : State → Call → List ℕ
+spentBy s (look i lot) = []
+spentBy s (insert i lot t) = cond (eqb (insertBy s i lot t .refusal) 0) (t .number ∷ []) []
+spentBy s (remove i lot) = []
+spentBy s (turn i) = []
+spentBy s (run turns) = []
+spentBy s (show lot) = []
+spentBy s count = []
 
 -- the tickets that calls from a state spend, in their order
 unfoldable pub ticketsFrom : State → List Call → List ℕ
 ticketsFrom s [] = []
-ticketsFrom s (c ∷ cs) = ticketOf s c ++ ticketsFrom (after s c) cs
+ticketsFrom s (c ∷ cs) = spentBy s c ++ ticketsFrom (after s c) cs
 
 -- the tickets of the inserts that were accepted, in the order of their starts
 abbrev pub tickets : Opening → List Call → List ℕ

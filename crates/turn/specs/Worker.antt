@@ -93,7 +93,7 @@ readWord p m w = record { kind = w .kind; place = p; key = w .key; ticket = w .t
 
 -- "word is the new word, held is slot, 7"
 abbrev pub claimed : ℕ → Worker → Worker
-claimed m w = record { kind = w .kind; place = 7; key = w .key; ticket = w .ticket; slot = w .slot; word = m; held = w .slot; seen = w .seen }
+claimed m w = record { kind = w .kind; place = ticketPlace; key = w .key; ticket = w .ticket; slot = w .slot; word = m; held = w .slot; seen = w .seen }
 
 -- ---- idle and broken records
 
