@@ -1,15 +1,15 @@
 -- Where nothing is broken and the sizes are right, no call is refused by 1, 3 or 7: which numbers of refusal are left, call by call.
 -- Assumes nothing.
 use Prim.Native.Nat.{ℕ, zero, suc, _<_}
-use mathlib.Core.Bool.{Bool, true, false, cond, _&&_, _||_, not, and-eq-true-iff}
+use mathlib.Core.Bool.{Bool, true, false, cond, _||_, not}
 use mathlib.Core.List.{List, [], _∷_}
 use mathlib.Core.Logic.{inl, inr}
-use mathlib.Core.Path.{_≡_, refl, sym, _∙_}
+use mathlib.Core.Path.{_≡_, refl}
 use native.Mathlib.Nat.{mod-lt}
 use native.Mathlib.Omega.{arith}
-use lib.Dec.{eqb, ltb}
+use lib.Dec.{ltb}
 use lib.ListN.{length}
-use borrow.Author.Tests.{eqb-false, leb-false, not-true}
+use borrow.Author.Tests.{leb-false}
 use Rattle.mark.proofs.Choices.{by-cases}
 use Rattle.turn.specs.Worker.{isIdle}
 use Rattle.turn.specs.Bucket.{brokenBucket}

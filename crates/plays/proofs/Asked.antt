@@ -10,8 +10,8 @@ use Rattle.engine.specs.declared.Started.{Started}
 use Rattle.engine.specs.Calls.{insertCall}
 use Rattle.sheet.specs.declared.Call as Field
 use Rattle.sheet.specs.Play.{asked}
-use Rattle.history.specs.History.{State, Call, look, insert, remove, recordOf, seatOf, lookBy, removeBy, startedAs, after, entries}
-use Rattle.plays.specs.Points.{ticketOf, callOf}
+use Rattle.history.specs.History.{State, Call, look, insert, remove, ticket, recordOf, seatOf, lookBy, removeBy, startedAs, after, entries}
+use Rattle.plays.specs.Points.{callOf}
 
 module _ (s : State) (c : Field.Call) where
   -- one of the three calls, by two tests
@@ -20,31 +20,31 @@ module _ (s : State) (c : Field.Call) where
 
   -- the call of a history
   abbrev called : Bool → Bool → Call
-  called = choice (look (c .worker) (c .lot)) (insert (c .worker) (c .lot) (ticketOf (c .ticket))) (remove (c .worker) (c .lot))
+  called = choice (look (c .worker) (c .lot)) (insert (c .worker) (c .lot) (ticket (c .ticket))) (remove (c .worker) (c .lot))
 
   -- the engine's start, with a ticket
   abbrev startBy : ℕ → Bool → Bool → Started
-  startBy ticket =
+  startBy bid =
       choice (lookBy s (c .worker) (c .lot))
-      (insertCall (s .board) (seatOf s (c .worker)) (recordOf s (c .worker)) (record { lot = c .lot; ticket = ticket }))
+      (insertCall (s .board) (seatOf s (c .worker)) (recordOf s (c .worker)) (record { lot = c .lot; ticket = bid }))
       (removeBy s (c .worker) (c .lot))
 
-  -- the state that it leaves
+  -- the call that a field asks for leaves the state that the sheet's start leaves
   pub after-call :
       c .ticket < 2 ^ 32
       → after s (callOf c) ≡ startedAs s (c .worker) (asked (s .board) (seatOf s (c .worker)) (recordOf s (c .worker)) c)
   unfolding asked
   after-call small = by (eqb (c .kind) lookKind) (eqb (c .kind) insertKind)
     where
-      same : ticketOf (c .ticket) .number ≡ c .ticket
+      same : ticket (c .ticket) .number ≡ c .ticket
       same = omega arith
 
       by : (t u : Bool) → after s (called t u) ≡ startedAs s (c .worker) (startBy (c .ticket) t u)
       by true u = refl
-      by false true = ap (λ (ticket : ℕ). startedAs s (c .worker) (startBy ticket false true)) same
+      by false true = ap (λ (bid : ℕ). startedAs s (c .worker) (startBy bid false true)) same
       by false false = refl
 
-  -- it does no turn
+  -- the call that a field asks for does no turn
   pub entries-call : entries s (callOf c) ≡ []
   entries-call = by (eqb (c .kind) lookKind) (eqb (c .kind) insertKind)
     where

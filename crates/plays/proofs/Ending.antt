@@ -55,7 +55,7 @@ module _ (sheet : List ℕ) where
     pub last : LastLine sheet end line
     pub listed : e ≡ after (end .left .words) (end .lines ++ line)
 
-  -- by a step, and on from there
+  -- a play finishes from a point if it does from the next
   on : (p : Point) (cs : List Call) (q : Point) (e f : Ending) → nextOf sheet p ≡ goes cs q → e ≡ f → Finishes q f → Finishes p e
   on p cs q e f step same rest =
       record {
@@ -67,7 +67,7 @@ module _ (sheet : List ℕ) where
         listed = same ∙ rest .listed;
       }
 
-  -- or it stops here
+  -- where a play stops at a point, it finishes there
   here : (p : Point) (line : List ℕ) (e : Ending) → LastLine sheet p line → e ≡ after (p .left .words) (p .lines ++ line) → Finishes p e
   here p line e last listed = record { calls = []; end = p; reached = stays; line = line; last = last; listed = listed }
 
@@ -146,7 +146,7 @@ module _ (sheet : List ℕ) where
             (rw done (ap (after _) (sym (append-assoc lines [] _))))
             (others next n [] (o .left) (lines ++ []) (omega arith) (known .1) (omega arith))
         call-finish false stopped =
-            here at (refusalLine (callField c left .stop) next) _ (refusal _ next (rw (isnot, is, stopped))) (rw stopped)
+            here at (refusalLine (callField c left .stop) next) _ (refusal (callField c left .stop) next (rw (isnot, is, stopped))) (rw stopped)
 
       read-finish : (r : Read) → readField sheet next ≡ r → Finishes at (first r)
       read-finish (Refused place) is = here at (refusalLine 8 place) _ (refusal 8 place (rw (isnot, is))) refl

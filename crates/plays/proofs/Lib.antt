@@ -2,6 +2,7 @@
 pub mod Plays
 pub mod Listings
 pub mod OwnBoard
+pub mod NoRefusal
 pub mod Sleeper
 -- a point stands as the calls so far leave an opened board
 pub mod Points

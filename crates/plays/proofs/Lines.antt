@@ -1,16 +1,23 @@
--- The E lines of a trace with one turn more. Assumes nothing.
+-- The E lines of a trace with one turn more, and that the sheet's own line is such a line. Assumes nothing.
 use Prim.Native.Nat.{ℕ, suc, _+_}
-use mathlib.Core.Path.{_≡_, sym, ap, _∙_}
+use mathlib.Core.Path.{_≡_, refl, sym, ap, _∙_}
 use mathlib.Core.List.{List, [], _∷_, _++_, append-assoc, append-nil}
 use native.Mathlib.Omega.{arith}
 use lib.ListN.{length}
+use Rattle.turn.specs.declared.Progress.{Progress}
+use Rattle.turn.specs.declared.Progress.the-variants.{GoesOn, Ended}
 use Rattle.sheet.specs.Play.{endedLine}
 use Rattle.history.specs.Trace.{Entry}
-use Rattle.plays.specs.Plays.{endLines}
+use Rattle.plays.specs.Plays.{lineFor, endLines}
+
+-- what the sheet lists of a turn is the line of its entry
+pub line-is : (n : ℕ) (e : Entry) (p : Progress) → endedLine n (e .worker) (e .was .kind) p ≡ lineFor n e p
+line-is n e GoesOn = refl
+line-is n e (Ended answer) = refl
 
 -- the line of a turn, if it ended its call
-abbrev pub lineOf : ℕ → Entry → List ℕ
-lineOf n e = endedLine n (e .worker) (e .was .kind) (e .report .progress)
+abbrev lineOf : ℕ → Entry → List ℕ
+lineOf n e = lineFor n e (e .report .progress)
 
 -- the line of a turn more comes last
 pub end-lines-then : (n : ℕ) (es : List Entry) (e : Entry) → endLines n (es ++ (e ∷ [])) ≡ endLines n es ++ lineOf (length es + n) e

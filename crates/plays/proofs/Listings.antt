@@ -1,4 +1,4 @@
--- No listing has R 3 or R 7, whatever the sheet and the board. Assumes nothing.
+-- No listing has R 3 or R 7, whatever bytes the sheet is of and whatever stands on the board. Assumes nothing.
 use Prim.Native.Nat.{ℕ, _≤_}
 use mathlib.Core.Bool.{Bool, true, false}
 use mathlib.Core.Path.{_≡_, refl, sym, ap, subst}
@@ -22,15 +22,17 @@ use Rattle.sheet.specs.Listing.{Ending, fieldsFrom, played, wordsAsked, listing
 use Rattle.sheet.proofs.Fielding.{first-field}
 use Rattle.history.specs.Numbers.{OneOf}
 use Rattle.history.specs.History as History
-use Rattle.plays.specs.Points.{Point, Bytes, FloorAccepted, LastLine}
+use Rattle.plays.specs.Points.{Point, Bytes, FloorAccepted}
 use Rattle.plays.specs.Points as Points
-use Rattle.plays.specs.Plays.{endLines, refusals, everyRefusal, EndsIn, totals, refusal, NeverBroken}
+use Rattle.plays.specs.Plays as Last
+use Rattle.plays.specs.Plays.{endLines, refusals, everyRefusal, LastOf, EndsIn, in-totals, in-refusal, NeverBroken}
+use Rattle.plays.proofs.NoRefusal.{never-refused}
 use Rattle.plays.proofs.Plays.{open-stop, open-lists, plays-history}
 
 -- a listing of one line
 alone : {line : List ℕ} → EndsIn line → NeverBroken line
 unfolding endLines
-alone {line} ends = record { turns = []; line = line; ends = ends; whole = refl }
+alone {line} ends = never-refused line [] line ends refl
 
 -- an opening is refused by 1 alone
 open-numbers : (plan : Plan) (board : List ℕ) (listed : ℕ) → OneOf (1 ∷ 0 ∷ []) (openNumber (planned plan) board listed)
@@ -51,19 +53,15 @@ module _ (sheet board : List ℕ) (bytes : Bytes sheet) (short : length sheet �
   accepted-listing f =
       let play = plays-history f bytes in
       let h = play .1 .1 in
-      record {
-        turns = History.trace (play .0) (play .1 .0);
-        line = h .line;
-        ends = by (h .last) (λ number offset. h .unbroken (play .1 .0) (h .end) number offset (h .reached));
-        whole = ap (λ (e : Ending). e .handed) (h .listed);
-      }
+      never-refused _ (History.trace (play .0) (play .1 .0)) (h .line)
+      (by (h .last) (λ number offset. h .refused-by (play .1 .0) (h .end) number offset (h .reached))) (ap (λ (e : Ending). e .handed) (h .listed))
     where
-      by : {p : Point} {line : List ℕ}
-          → LastLine sheet p line
+      by : {o : History.Opening} {calls : List History.Call} {p : Point} {line : List ℕ}
+          → LastOf sheet o calls p line
           → ((number offset : ℕ) → Points.nextOf sheet p ≡ Points.refused number offset → OneOf refusals number)
           → EndsIn line
-      by (Points.totals end) known = totals _
-      by (Points.refusal number offset stop) known = refusal number offset (inr (inr (known number offset stop)))
+      by (Last.totals end) known = in-totals _
+      by (Last.refusal number offset stop) known = in-refusal number offset (inr (inr (known number offset stop)))
 
   opened-listing :
       (plan : Plan) (next : ℕ)
@@ -76,23 +74,23 @@ module _ (sheet board : List ℕ) (bytes : Bytes sheet) (short : length sheet �
       accepted-listing (record { short = short; plan = plan; next = next; read = read; accepted = eqb-true _ 0 is })
   opened-listing plan next read false isnot =
       let number = refused-by (subst (OneOf (1 ∷ 0 ∷ [])) (sym (open-stop plan board)) (open-numbers plan board (plan .workers))) (eqb-false _ 0 isnot) in
-      rw (le-ltb 16384 (length sheet) short, read, isnot, open-lists plan board) (alone (refusal _ 0 number))
+      rw (le-ltb 16384 (length sheet) short, read, isnot, open-lists plan board) (alone (in-refusal _ 0 number))
 
   first-listing : (r : Read) → readField sheet 0 ≡ r → NeverBroken (played sheet board .handed)
   unfolding played fieldsFrom
   first-listing (Refused place) read =
-      rw (le-ltb 16384 (length sheet) short, read) (alone (refusal 8 place (inr (inr (inr (inr (inr (inr (inl refl)))))))))
+      rw (le-ltb 16384 (length sheet) short, read) (alone (in-refusal 8 place (inr (inr (inr (inr (inr (inr (inl refl)))))))))
   first-listing (Whole (Opening plan) next) read = opened-listing plan next read _ refl
   first-listing (Whole (Calling c) next) read = let e = first-field sheet _ next read in absurd (let z : _≡_ {A = ℕ} 0 1 = cc in omega arith)
   first-listing (Whole (Turning span) next) read = let e = first-field sheet _ next read in absurd (let z : _≡_ {A = ℕ} 0 1 = cc in omega arith)
 
--- whatever the sheet and the board, no listing has R 3 or R 7
+-- whatever bytes the sheet is of and whatever stands on the board, no listing has R 3 or R 7
 pub never-broken : (sheet board : List ℕ) → Bytes sheet → NeverBroken (played sheet board .handed)
 unfolding played
 never-broken sheet board bytes = by (ltb 16384 (length sheet)) refl
   where
     by : (t : Bool) → ltb 16384 (length sheet) ≡ t → NeverBroken (played sheet board .handed)
-    by true long = rw long (alone (refusal 9 0 (inr (inl refl))))
+    by true long = rw long (alone (in-refusal 9 0 (inr (inl refl))))
     by false isnot = first-listing sheet board bytes (ltb-false _ _ isnot) (readField sheet 0) refl
 
 -- so it is with the listing that the program prints

@@ -7,7 +7,6 @@ use lib.ListN.{length, replicate, length-replicate}
 use borrow.Author.Tests.{eq-eqb, le-leb}
 use Rattle.engine.specs.declared.Plan.{Plan}
 use Rattle.engine.specs.Refusals.{wrongSizes, openNumber}
-use Rattle.engine.specs.Calls.{planned}
 use Rattle.sheet.specs.declared.Field.the-variants.{Opening}
 use Rattle.sheet.specs.declared.Read.the-variants.{Whole}
 use Rattle.sheet.specs.Fields.{readField}

@@ -11,10 +11,12 @@ use Rattle.turn.specs.declared.Worker.{Worker}
 use Rattle.turn.specs.Worker.{idle}
 use Rattle.turn.specs.Turn.{After, after}
 use Rattle.engine.specs.declared.Plan.{Plan}
+use Rattle.engine.specs.declared.Totals.{Totals}
 use Rattle.engine.specs.Board.{openedBoard}
 use Rattle.engine.specs.Refusals.{wrongSizes, openNumber}
 use Rattle.engine.specs.Calls.{Opened, planned, openCall, noTurns}
 use Rattle.engine.proofs.Sizes.{right-sizes}
+use Rattle.sheet.specs.Line.{totalsLine}
 use Rattle.sheet.specs.Play.{Outcome, outcome, deskOf, shutDesk, shutFloor, openField, turnsDone}
 use Rattle.sheet.specs.Listing.{fieldsFrom, played}
 use Rattle.sheet.proofs.Fielding.{whole-next}
@@ -24,7 +26,8 @@ use Rattle.history.specs.History.{State, Opening, Call, state, trace, stateFrom
 use Rattle.history.proofs.Opened.{opened-is}
 use Rattle.history.proofs.DemandThree.{demand-three}
 use Rattle.plays.specs.Points.{Point, goes, over, refused, nextOf, Steps, stays, steps, Bytes, FloorAccepted, firstPoint, LastLine, totals, refusal}
-use Rattle.plays.specs.Plays.{endLines, StartsWith, PlaysHistory}
+use Rattle.plays.specs.Plays.{endLines, OnTheWay, LastOf, PlaysHistory}
+use Rattle.plays.specs.Plays as Last
 use Rattle.plays.proofs.Readings.{floor-version}
 use Rattle.plays.proofs.Ending.{Finishes, comesTo, finish}
 use Rattle.plays.proofs.Standing.{Stands}
@@ -53,17 +56,18 @@ module _ (sheet : List ℕ) where
       → Steps sheet p cs q
       → Steps sheet p ds r
       → LastLine sheet r line
-      → StartsWith cs ds
-  one-play {ds = ds} stays whole last = record { rest = ds; is = refl }
+      → OnTheWay sheet cs q ds r
+  one-play {ds = ds} stays whole last = record { rest = ds; calls-are = refl; goes-on = whole }
   one-play {p = p} {line = line} (steps {q = m} {cs = as₁} step part) stays last = absurd (stuck p line as₁ m last step)
   one-play {p = p} {r = r} {line = line} (steps {cs = as₁} {ds = bs₁} step part) (steps {ds = bs₂} then whole) last =
-      let rest =
+      let way =
       one-play {r = r} {line = line} part (subst (λ (x : Point). Steps sheet x bs₂ r) (sym (same-point p _ _ _ _ step then)) whole) last in
       record {
-        rest = rest .rest;
-        is =
-            ap₂ (λ (x y : List Call). x ++ y) (sym (same-calls p _ _ _ _ step then)) (rest .is)
-            ∙ sym (append-assoc as₁ bs₁ (rest .rest));
+        rest = way .rest;
+        calls-are =
+            ap₂ (λ (x y : List Call). x ++ y) (sym (same-calls p _ _ _ _ step then)) (way .calls-are)
+            ∙ sym (append-assoc as₁ bs₁ (way .rest));
+        goes-on = way .goes-on;
       }
 
 -- ---- the opening
@@ -172,6 +176,15 @@ module _ {sheet board : List ℕ} (f : FloorAccepted sheet board) (bytes : Bytes
   abbrev calls : List Call
   calls = finishes .calls
 
+  -- the last line, told from the history
+  last-of :
+      {p : Point} {line : List ℕ}
+      → p .left .handed .totals ≡ countsOf (trace opening calls)
+      → LastLine sheet p line
+      → LastOf sheet opening calls p line
+  last-of {p} counted (totals end) = subst (λ (t : Totals). LastOf sheet opening calls p (totalsLine t)) (sym counted) (Last.totals end)
+  last-of counted (refusal number offset stop) = Last.refusal number offset stop
+
   -- the play of a sheet of bytes whose floor is accepted is the history of an opening and calls
   pub plays-history : (o : Opening) × ((calls : List Call) × PlaysHistory f o calls)
   plays-history =
@@ -183,13 +196,13 @@ module _ {sheet board : List ℕ} (f : FloorAccepted sheet board) (bytes : Bytes
             plan = refl;
             points = λ done p reached. (one-play sheet reached (finishes .reached) (finishes .last), at-point done p reached .stands);
             bound = λ done p reached. rw (at-point done p reached .stands .totals) (demand-three opening done .bound);
-            unbroken =
+            refused-by =
                 λ done p number offset reached stop.
                 subst (Fine opening sheet bytes done) stop (fine opening sheet bytes done p (at-point done p reached));
             end = finishes .end;
             reached = finishes .reached;
             line = finishes .line;
-            last = finishes .last;
+            last = last-of (there .totals) (finishes .last);
             listed =
                 play-comes
                 ∙ finishes .listed

@@ -65,14 +65,14 @@ module _ (o : Opening) (done : List Call) (p : Point) (so : Stands o done p) whe
       }
 
   -- the history's state
-  abbrev pub s : State
+  abbrev s : State
   s = state o done
 
   -- the desk's records, and the board
-  abbrev pub ws : List Worker
+  abbrev ws : List Worker
   ws = p .left .handed .records
 
-  abbrev pub words : List ℕ
+  abbrev words : List ℕ
   words = p .left .words
 
   -- nothing there is broken

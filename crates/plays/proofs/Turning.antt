@@ -25,7 +25,8 @@ use Rattle.history.proofs.Counts.{one-is, total-append}
 use Rattle.history.proofs.Runs.{same-totals}
 use Rattle.history.proofs.Histories.{stateFrom-then, traceFrom-then}
 use Rattle.plays.specs.Points.{Point}
-use Rattle.plays.proofs.Lines.{end-lines-then}
+use Rattle.plays.specs.Plays.{lineFor}
+use Rattle.plays.proofs.Lines.{line-is, end-lines-then}
 use Rattle.plays.proofs.Standing.{Stands, seat-same, record-same, records-set}
 
 -- a turn stops with the number of its answer
@@ -155,7 +156,8 @@ module _ (o : Opening) (done : List Call) (p : Point) (so : Stands o done p) (i 
               totals = rw desk-turn totals-are;
               lines =
                   rw (desk-turn, trace-is)
-                  (ap₂ (λ (l : List ℕ) (n : ℕ). l ++ endedLine (n + 1) i (w .kind) (step .stepped .report .progress)) (so .stands .lines) turns-are
+                  (ap (λ (l : List ℕ). p .lines ++ l) (line-is (t .turns) e (step .stepped .report .progress))
+                  ∙ ap₂ (λ (l : List ℕ) (n : ℕ). l ++ lineFor (n + 1) e (step .stepped .report .progress)) (so .stands .lines) turns-are
                   ∙ sym (end-lines-then 1 (trace o done) e));
             };
         long = rw desk-turn (length-set (d .records) i (step .stepped .worker) ∙ so .long);

@@ -1,24 +1,30 @@
 -- What a sheet plays is a history: every point of the play stands as the calls so far leave an opened board, and the listing is told
 -- from that history.
-use Prim.Native.Nat.{ℕ, suc, _≤_}
+use Prim.Native.Nat.{ℕ, suc, _+_, _≤_}
 use mathlib.Core.Path.{_≡_}
 use mathlib.Core.List.{List, [], _∷_, _++_}
 use lib.ListN.{take}
+use Rattle.turn.specs.declared.Progress.{Progress}
+use Rattle.turn.specs.declared.Progress.the-variants.{GoesOn, Ended}
 use Rattle.turn.specs.Turn.{after}
 use Rattle.engine.specs.declared.Totals.{Totals}
-use Rattle.sheet.specs.Line.{totalsLine, refusalLine}
-use Rattle.sheet.specs.Play.{endedLine}
+use Rattle.sheet.specs.Line.{endLine, totalsLine, refusalLine}
 use Rattle.sheet.specs.Listing.{played}
 use Rattle.history.specs.Trace.{Entry}
 use Rattle.history.specs.Counts.{countsOf}
 use Rattle.history.specs.Numbers.{OneOf}
 use Rattle.history.specs.History.{Opening, Call, workersOf, state, trace, mostLost}
-use Rattle.plays.specs.Points.{Point, refused, nextOf, Steps, FloorAccepted, firstPoint, LastLine}
+use Rattle.plays.specs.Points.{Point, over, refused, nextOf, Steps, FloorAccepted, firstPoint}
 
--- the E lines of turns that are numbered from n on: one for each that ended its call, with its number, worker, kind and answer
+-- the E line of a turn that ended its call, with its number, worker, kind and answer; no line where the call goes on
+abbrev pub lineFor : ℕ → Entry → Progress → List ℕ
+lineFor n e GoesOn = []
+lineFor n e (Ended answer) = endLine n (e .worker) (e .was .kind) answer
+
+-- the E lines of turns that are numbered from n on
 unfoldable pub endLines : ℕ → List Entry → List ℕ
 endLines n [] = []
-endLines n (e ∷ es) = endedLine n (e .worker) (e .was .kind) (e .report .progress) ++ endLines (suc n) es
+endLines n (e ∷ es) = lineFor n e (e .report .progress) ++ endLines (suc n) es
 
 -- a point stands as an opening and these calls leave it
 pub record StandsAs (o : Opening) (calls : List Call) (p : Point) : Type 0 where
@@ -35,31 +41,39 @@ pub record StandsAs (o : Opening) (calls : List Call) (p : Point) : Type 0 where
 abbrev pub refusals : List ℕ
 refusals = 2 ∷ 4 ∷ 5 ∷ 6 ∷ 8 ∷ []
 
--- a list is the beginning of another
-pub record StartsWith (part whole : List Call) : Type 0 where
+-- a point is on the way to the end of the play, of which so many calls are done
+pub record OnTheWay (sheet : List ℕ) (done : List Call) (p : Point) (calls : List Call) (end : Point) : Type 0 where
   pub rest : List Call
-  pub is : whole ≡ part ++ rest
+  pub calls-are : calls ≡ done ++ rest
+  pub goes-on : Steps sheet p rest end
+
+-- the last line of a listing
+pub data LastOf (sheet : List ℕ) (o : Opening) (calls : List Call) (end : Point) : List ℕ → Type 0 where
+  -- at the end of the sheet the counts of the trace
+  totals : nextOf sheet end ≡ over → LastOf sheet o calls end (totalsLine (countsOf (trace o calls)))
+  -- or the refusal that stopped it
+  refusal : (number offset : ℕ) → nextOf sheet end ≡ refused number offset → LastOf sheet o calls end (refusalLine number offset)
 
 -- the play of a sheet on a board is the history of this opening and these calls
 pub record PlaysHistory {sheet board : List ℕ} (f : FloorAccepted sheet board) (o : Opening) (calls : List Call) : Type 0 where
   -- the opening is of the sheet's own floor
   pub plan : o .plan ≡ f .plan
-  -- at every point of the play: the calls so far are the first of these, and it stands as they leave it
-  pub points : (done : List Call) (p : Point) → Steps sheet (firstPoint f) done p → StartsWith done calls × StandsAs o done p
+  -- by these calls the play comes to its last point
+  pub end : Point
+  pub reached : Steps sheet (firstPoint f) calls end
+  -- every point of the play is on the way there, and stands as the calls so far leave it
+  pub points : (done : List Call) (p : Point) → Steps sheet (firstPoint f) done p → OnTheWay sheet done p calls end × StandsAs o done p
   -- the lost swaps of the play so far are at most (W - 1)(2I + R), I and R counted from the calls so far
   pub bound : (done : List Call) (p : Point) → Steps sheet (firstPoint f) done p → p .left .handed .totals .lost ≤ mostLost o done
   -- what is refused is refused by 2, 4, 5, 6 or 8, and so by 3 and by 7 never
-  pub unbroken :
+  pub refused-by :
       (done : List Call) (p : Point) (number offset : ℕ)
       → Steps sheet (firstPoint f) done p
       → nextOf sheet p ≡ refused number offset
       → OneOf refusals number
-  -- after the last of the calls the play stops
-  pub end : Point
-  pub reached : Steps sheet (firstPoint f) calls end
-  -- and the listing is the E lines of the trace, and then one line of the totals, or of the refusal that stopped it
+  -- the listing is the E lines of the trace, and then one last line
   pub line : List ℕ
-  pub last : LastLine sheet end line
+  pub last : LastOf sheet o calls end line
   pub listed : played sheet board ≡ after (state o calls .board) (endLines 1 (trace o calls) ++ line)
 
 -- ---- every listing
@@ -70,12 +84,20 @@ everyRefusal = 1 ∷ 9 ∷ refusals
 
 -- a last line: the totals, or a refusal by one of those numbers
 pub data EndsIn : List ℕ → Type 0 where
-  totals : (t : Totals) → EndsIn (totalsLine t)
-  refusal : (number offset : ℕ) → OneOf everyRefusal number → EndsIn (refusalLine number offset)
+  in-totals : (t : Totals) → EndsIn (totalsLine t)
+  in-refusal : (number offset : ℕ) → OneOf everyRefusal number → EndsIn (refusalLine number offset)
 
--- a listing in which nothing is refused by 3 or by 7: the E lines of some turns, and one last line
+-- how a line R of a number of one digit begins: R, a space, the digit, a space
+abbrev pub refusedBy : ℕ → List ℕ → List ℕ
+refusedBy digit rest = 82 ∷ 32 ∷ (48 + digit) ∷ 32 ∷ rest
+
+-- a listing in which nothing is refused by 3 or by 7
 pub record NeverBroken (listing : List ℕ) : Type 0 where
+  -- it is the E lines of some turns, and one last line
   pub turns : List Entry
   pub line : List ℕ
   pub ends : EndsIn line
   pub whole : listing ≡ endLines 1 turns ++ line
+  -- neither R 3 nor R 7 stands anywhere in it
+  pub no-3 : (before rest : List ℕ) → listing ≡ before ++ refusedBy 3 rest → ⊥
+  pub no-7 : (before rest : List ℕ) → listing ≡ before ++ refusedBy 7 rest → ⊥

@@ -1,10 +1,9 @@
 -- The points of a sheet's play: where it stands once its floor is open, and after each start and each turn that is done. What is done
 -- between two points is said by the sheet's own definitions of a field, a start and a turn, and nowhere else.
-use Prim.Native.Nat.{ℕ, _%_, _^_, _≤_, _<_}
+use Prim.Native.Nat.{ℕ, _≤_, _<_}
 use mathlib.Core.Bool.{cond}
 use mathlib.Core.Path.{_≡_}
 use mathlib.Core.List.{List, [], _∷_, _++_}
-use native.Mathlib.Omega.{arith}
 use lib.Dec.{eqb}
 use lib.ListN.{length}
 use Rattle.turn.specs.Worker.{lookKind, insertKind}
@@ -17,19 +16,15 @@ use Rattle.sheet.specs.declared.Read.the-variants.{Whole, Refused}
 use Rattle.sheet.specs.Fields.{byteAt, readField}
 use Rattle.sheet.specs.Line.{totalsLine, refusalLine}
 use Rattle.sheet.specs.Play.{Desk, Outcome, shutDesk, openField, callField, turnAtDesk, turnsIn}
-use Rattle.history.specs.History.{Call, look, insert, remove, turn, Ticket}
+use Rattle.history.specs.History.{Call, look, insert, remove, turn, ticket}
 
 -- ---- the calls of a history that a sheet asks for
-
--- the ticket that stands in the low 32 bits of a number
-abbrev pub ticketOf : ℕ → Ticket
-ticketOf n = record { number = n % 2 ^ 32; fits = omega arith }
 
 -- the start that a field asks for, by its kind
 abbrev pub callOf : Field.Call → Call
 callOf c =
     cond (eqb (c .kind) lookKind) (look (c .worker) (c .lot))
-    (cond (eqb (c .kind) insertKind) (insert (c .worker) (c .lot) (ticketOf (c .ticket))) (remove (c .worker) (c .lot)))
+    (cond (eqb (c .kind) insertKind) (insert (c .worker) (c .lot) (ticket (c .ticket))) (remove (c .worker) (c .lot)))
 
 -- ---- points
 
@@ -64,7 +59,7 @@ afterTurn p i ts =
     let o = turnAtDesk i (p .left) in
     took o (p .field) (turn i) (record { field = p .field; next = p .next; turns = ts; left = o .left; lines = p .lines ++ o .lines })
 
--- the next field, as it is read; a floor never is
+-- the next field, as it is read; a later floor never is, so that its arm is out of reach
 abbrev pub afterRead : List ℕ → Point → Read → Next
 afterRead sheet p (Refused place) = refused 8 place
 afterRead sheet p (Whole (Opening plan) n) = refused 8 (p .next)
@@ -90,7 +85,7 @@ pub data Steps (sheet : List ℕ) : Point → List Call → Point → Type 0 whe
 
 -- ---- the first and the last
 
--- each byte of a sheet is one
+-- each number of a sheet is a byte
 abbrev pub Bytes : List ℕ → Type 0
 Bytes sheet = (at : ℕ) → byteAt sheet at < 256
 

@@ -2,7 +2,6 @@
 use Prim.Native.Nat.{ℕ}
 use mathlib.Core.List.{List, [], _∷_, _++_}
 use lib.ListN.{replicate}
-use Rattle.sheet.specs.Line.{endLine, totalsLine}
 
 -- a lot below 256, in eight bytes
 abbrev lot : ℕ → List ℕ
@@ -42,11 +41,11 @@ sleeperSheet =
     ++ turns 11 0
     ++ turns 5 1
 
--- its four E lines, and 34 turns with 6 changes, 1 lost swap and no full round
+-- its listing, byte by byte: four ends, and 34 turns with 6 changes, 1 lost swap and no full round
 abbrev pub sleeperListing : List ℕ
 sleeperListing =
-    endLine 11 0 2 1
-    ++ endLine 18 0 3 1
-    ++ endLine 29 0 2 1
-    ++ endLine 34 1 3 2
-    ++ totalsLine (record { turns = 34; changes = 6; lost = 1; full = 0 })
+    (69 ∷ 32 ∷ 49 ∷ 49 ∷ 32 ∷ 48 ∷ 32 ∷ 50 ∷ 32 ∷ 49 ∷ 10 ∷ [])  -- E 11 0 2 1
+    ++ (69 ∷ 32 ∷ 49 ∷ 56 ∷ 32 ∷ 48 ∷ 32 ∷ 51 ∷ 32 ∷ 49 ∷ 10 ∷ [])  -- E 18 0 3 1
+    ++ (69 ∷ 32 ∷ 50 ∷ 57 ∷ 32 ∷ 48 ∷ 32 ∷ 50 ∷ 32 ∷ 49 ∷ 10 ∷ [])  -- E 29 0 2 1
+    ++ (69 ∷ 32 ∷ 51 ∷ 52 ∷ 32 ∷ 49 ∷ 32 ∷ 51 ∷ 32 ∷ 50 ∷ 10 ∷ [])  -- E 34 1 3 2
+    ++ (84 ∷ 32 ∷ 51 ∷ 52 ∷ 32 ∷ 54 ∷ 32 ∷ 49 ∷ 32 ∷ 48 ∷ 10 ∷ [])  -- T 34 6 1 0
