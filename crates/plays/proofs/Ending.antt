@@ -17,12 +17,17 @@ use Rattle.sheet.specs.declared.Read.{Read}
 use Rattle.sheet.specs.declared.Field.the-variants.{Opening, Calling, Turning}
 use Rattle.sheet.specs.declared.Read.the-variants.{Whole, Refused}
 use Rattle.sheet.specs.Fields.{readField}
-use Rattle.sheet.specs.Line.{refusalLine}
+use Rattle.sheet.specs.Line.{totalsLine, refusalLine}
 use Rattle.sheet.specs.Play.{Desk, Outcome, recordOf, callField, turnListed, turnAtDesk, turnsDone, turnsIn}
 use Rattle.sheet.specs.Listing.{Ending, listedFirst, afterField, oneField, fieldsFrom}
 use Rattle.sheet.proofs.Fielding.{later-field, whole-next}
 use Rattle.history.specs.History.{Call, turn}
-use Rattle.plays.specs.Points.{Point, goes, callOf, nextOf, Steps, stays, steps, LastLine, totals, refusal}
+use Rattle.plays.specs.Points.{Point, goes, over, refused, callOf, nextOf, Steps, stays, steps}
+
+-- the last line of the listing, where the play stops at a point
+pub data LastLine (sheet : List ℕ) (p : Point) : List ℕ → Type 0 where
+  totals : nextOf sheet p ≡ over → LastLine sheet p (totalsLine (p .left .handed .totals))
+  refusal : (number offset : ℕ) → nextOf sheet p ≡ refused number offset → LastLine sheet p (refusalLine number offset)
 
 -- a turn that is refused leaves the board and the desk, and lists nothing
 turn-refused : (i : ℕ) (s : After Desk) → eqb (turnAtDesk i s .stop) 0 ≡ false → (turnAtDesk i s .left ≡ s) × (turnAtDesk i s .lines ≡ [])

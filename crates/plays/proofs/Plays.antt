@@ -25,11 +25,11 @@ use Rattle.history.specs.Counts.{countsOf}
 use Rattle.history.specs.History.{State, Opening, Call, state, trace, stateFrom, traceFrom}
 use Rattle.history.proofs.Opened.{opened-is}
 use Rattle.history.proofs.DemandThree.{demand-three}
-use Rattle.plays.specs.Points.{Point, goes, over, refused, nextOf, Steps, stays, steps, Bytes, FloorAccepted, firstPoint, LastLine, totals, refusal}
+use Rattle.plays.specs.Points.{Point, goes, over, refused, nextOf, Steps, stays, steps, Bytes, FloorAccepted, firstPoint}
 use Rattle.plays.specs.Plays.{endLines, OnTheWay, LastOf, PlaysHistory}
 use Rattle.plays.specs.Plays as Last
 use Rattle.plays.proofs.Readings.{floor-version}
-use Rattle.plays.proofs.Ending.{Finishes, comesTo, finish}
+use Rattle.plays.proofs.Ending.{LastLine, totals, refusal, Finishes, comesTo, finish}
 use Rattle.plays.proofs.Standing.{Stands}
 use Rattle.plays.proofs.Points.{Fine, fine, points-stand}
 

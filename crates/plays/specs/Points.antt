@@ -14,7 +14,6 @@ use Rattle.sheet.specs.declared.Field.the-variants.{Opening, Calling, Turning}
 use Rattle.sheet.specs.declared.Read.{Read}
 use Rattle.sheet.specs.declared.Read.the-variants.{Whole, Refused}
 use Rattle.sheet.specs.Fields.{byteAt, readField}
-use Rattle.sheet.specs.Line.{totalsLine, refusalLine}
 use Rattle.sheet.specs.Play.{Desk, Outcome, shutDesk, openField, callField, turnAtDesk, turnsIn}
 use Rattle.history.specs.History.{Call, look, insert, remove, turn, ticket}
 
@@ -83,7 +82,7 @@ pub data Steps (sheet : List ℕ) : Point → List Call → Point → Type 0 whe
   stays : {p : Point} → Steps sheet p [] p
   steps : {p q r : Point} {cs ds : List Call} → nextOf sheet p ≡ goes cs q → Steps sheet q ds r → Steps sheet p (cs ++ ds) r
 
--- ---- the first and the last
+-- ---- where a play begins
 
 -- each number of a sheet is a byte
 abbrev pub Bytes : List ℕ → Type 0
@@ -102,8 +101,3 @@ abbrev pub firstPoint : {sheet board : List ℕ} → FloorAccepted sheet board �
 firstPoint {sheet} {board} f =
     let o = openField (f .plan) (after board shutDesk) in
     record { field = 0; next = f .next; turns = []; left = o .left; lines = o .lines }
-
--- the last line of the listing, where the play stops at a point
-pub data LastLine (sheet : List ℕ) (p : Point) : List ℕ → Type 0 where
-  totals : nextOf sheet p ≡ over → LastLine sheet p (totalsLine (p .left .handed .totals))
-  refusal : (number offset : ℕ) → nextOf sheet p ≡ refused number offset → LastLine sheet p (refusalLine number offset)
