@@ -1,12 +1,13 @@
 -- What the test of the sizes says when it lets a floor through. Assumes nothing.
-use Prim.Native.Nat.{ℕ}
+use Prim.Native.Nat.{ℕ, _*_}
 use mathlib.Core.Bool.{Bool, true, false, _||_, and-eq-true-iff}
 use mathlib.Core.Path.{_≡_, refl}
 use mathlib.Core.List.{List}
-use borrow.Author.Tests.{eqb-true, leb-true, not-false}
+use lib.ListN.{length}
+use borrow.Author.Tests.{eqb-true, eq-eqb, leb-true, le-leb, not-false}
 use Rattle.mark.proofs.Choices.{passes, not-both}
 use Rattle.engine.specs.declared.Floor.{Floor}
-use Rattle.engine.specs.Refusals.{wrongFloor, wrongSizes, showNumber}
+use Rattle.engine.specs.Refusals.{wrongFloor, wrongSizes, openNumber, showNumber}
 use Rattle.engine.specs.Room.{Right}
 
 -- floor and board fit together
@@ -38,6 +39,25 @@ right-sizes f board listed is = right f board (both-fail _ _ is .0)
 pub right-listed : (f : Floor) (board : List ℕ) (listed : ℕ) → wrongSizes f board listed ≡ false → listed ≡ f .workers
 unfolding wrongSizes wrongFloor
 right-listed f board listed is = eqb-true _ _ (not-false _ (both-fail (wrongFloor f board) _ is .1))
+
+-- where floor and board fit together and there is a record for each worker, the test lets them through
+pub sizes-right : (f : Floor) (board : List ℕ) (listed : ℕ) → Right f board → listed ≡ f .workers → wrongSizes f board listed ≡ false
+unfolding wrongSizes
+sizes-right f board listed fits is =
+    rw (
+      is,
+      le-leb 1 (f .workers) (fits .some-worker),
+      le-leb (f .workers) 64 (fits .workers),
+      le-leb 1 (f .buckets) (fits .some-bucket),
+      le-leb (f .buckets) 256 (fits .buckets),
+      eq-eqb (length board) (8 * f .buckets) (fits .words),
+      eq-eqb (f .workers) (f .workers) refl,
+    ) refl
+
+-- so an opening of those sizes is accepted
+pub opens-right : (f : Floor) (board : List ℕ) (listed : ℕ) → Right f board → listed ≡ f .workers → openNumber f board listed ≡ 0
+unfolding openNumber
+opens-right f board listed fits is = rw (sizes-right f board listed fits is)
 
 -- a show that is not refused
 pub shown-right : (f : Floor) (board : List ℕ) (lot : ℕ) → showNumber f board lot ≡ 0 → Right f board

@@ -23,6 +23,7 @@ use Rattle.engine.proofs.Sizes.{right-listed}
 use Rattle.engine.proofs.Keeps.{turn-accepted}
 use Rattle.engine.proofs.Cut.{bucket-within, same-bucket, other-bucket}
 use Rattle.history.specs.Trace.{Entry}
+use Rattle.history.specs.Counts.{isChange, isCommit, isClose}
 use Rattle.history.specs.History.{State, recordOf, turnBy, turnedAs, entryOf, turnEntry}
 use Rattle.history.proofs.Counts.{commit-is, close-is, change-is}
 use Rattle.history.proofs.View.{Acts, Walk, stays, acts}
@@ -87,9 +88,9 @@ module _ (s : State) (i : ℕ) where
       let action = does .stepped .report .action in
       record {
         effect = effectOf w action;
-        commits = commit-is w action;
-        closes = close-is w action (turn-won-at bucket w ok);
-        changes = change-is w action;
+        commits = commit-is w action (isCommit entry);
+        closes = close-is w action (turn-won-at bucket w ok) (isClose entry);
+        changes = change-is w action (isChange entry);
         within = omega (arith, listed none, known .2);
         records = refl;
         last = refl;

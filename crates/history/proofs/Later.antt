@@ -1,4 +1,4 @@
--- Traces and lists of tickets with more at their end. Assumes nothing.
+-- Traces and lists of tickets with more at their end, and what holds of one of some numbers. Assumes nothing.
 use Prim.Native.Nat.{ℕ, _<_}
 use mathlib.Core.List.{List, [], _∷_, _++_, append-assoc, nil≢cons, head-eq-of-cons-eq, tail-eq-of-cons-eq}
 use mathlib.Core.Logic.{_⊎_, inl, inr}
@@ -50,6 +50,18 @@ module _ (P : Entry → Type 0) where
   -- the entry at the end of a trace stands in it
   pub some-last : (past : List Entry) (d : Entry) → P d → Some P (past ++ (d ∷ []))
   some-last past d holds = record { older = past; entry = d; newer = []; cut = refl; holds = holds }
+
+-- ---- one of some numbers
+
+-- P holds of each of these numbers
+abbrev pub Each : (ℕ → Type 0) → List ℕ → Type 0
+Each P [] = Unit {0}
+Each P (m ∷ ms) = P m × Each P ms
+
+-- what holds of each of these numbers holds of one of them
+pub one-each : (P : ℕ → Type 0) (ms : List ℕ) → Each P ms → (n : ℕ) → OneOf ms n → P n
+one-each P (m ∷ ms) each n (inl is) = subst P (sym is) (each .0)
+one-each P (m ∷ ms) each n (inr later) = one-each P ms (each .1) n later
 
 -- ---- tickets
 

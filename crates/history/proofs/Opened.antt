@@ -8,7 +8,7 @@ use native.Mathlib.Decide.{decLe}
 use native.Mathlib.Omega.{arith}
 use lib.ListN.{length, replicate, length-replicate, getD-replicate, List·getD-eq-default}
 use lib.Seq.{drop-drop}
-use borrow.Author.Tests.{eq-eqb, le-leb}
+use borrow.Author.Tests.{eq-eqb}
 use Rattle.mark.proofs.Choices.{passes}
 use Rattle.turn.specs.Worker.{idle}
 use Rattle.engine.specs.declared.Plan.{Plan}
@@ -16,7 +16,7 @@ use Rattle.engine.specs.Board.{bucketAt, emptyBucket, openedBoard}
 use Rattle.engine.specs.Refusals.{wrongSizes, openNumber}
 use Rattle.engine.specs.Calls.{planned, openCall, blank, recordIn}
 use Rattle.engine.specs.Room.{Right}
-use Rattle.engine.proofs.Sizes.{right-sizes, right-listed}
+use Rattle.engine.proofs.Sizes.{right-sizes, right-listed, opens-right}
 use Rattle.history.specs.History.{State, Opening, opened}
 use Rattle.history.proofs.View.{worker}
 use Rattle.history.proofs.States.{view}
@@ -78,18 +78,16 @@ blank-accepted :
     → 1 ≤ p .buckets
     → p .buckets ≤ 256
     → openNumber (planned p) (replicate (8 * p .buckets) 0) (length (replicate (p .workers) blank)) ≡ 0
-unfolding openNumber wrongSizes
 blank-accepted p some-worker workers some-bucket buckets =
-    rw (
-      length-replicate {A = ℕ} (8 * p .buckets) 0,
-      length-replicate (p .workers) blank,
-      le-leb 1 (p .workers) some-worker,
-      le-leb (p .workers) 64 workers,
-      le-leb 1 (p .buckets) some-bucket,
-      le-leb (p .buckets) 256 buckets,
-      eq-eqb (8 * p .buckets) (8 * p .buckets) refl,
-      eq-eqb (p .workers) (p .workers) refl,
-    ) refl
+    opens-right (planned p) _ _
+    (record {
+      some-worker = some-worker;
+      workers = workers;
+      some-bucket = some-bucket;
+      buckets = buckets;
+      words = length-replicate {A = ℕ} (8 * p .buckets) 0;
+    })
+    (length-replicate (p .workers) blank)
 
 -- an opening of any number of workers and buckets in range, at any version of 32 bits
 pub any-opening :

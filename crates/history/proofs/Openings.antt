@@ -4,17 +4,16 @@ use Prim.Native.Nat.{ℕ, _^_, _<_}
 use mathlib.Core.Bool.{false}
 use mathlib.Core.List.{List, [], _∷_, _++_, append-assoc, append-nil}
 use mathlib.Core.Path.{_≡_, refl, sym, ap, subst, _∙_}
+use native.Mathlib.Decide.{ℕ-discrete}
 use native.Mathlib.Omega.{arith}
 use lib.ListN.{length}
 use Rattle.mark.proofs.Choices.{passes}
-use Rattle.engine.specs.declared.Floor.{Floor}
 use Rattle.engine.specs.declared.Plan.{Plan}
 use Rattle.engine.specs.Refusals.{wrongSizes, openNumber}
 use Rattle.engine.specs.Calls.{planned}
-use Rattle.engine.proofs.Sizes.{right-sizes, right-listed}
+use Rattle.engine.proofs.Sizes.{right-sizes, right-listed, opens-right}
 use Rattle.engine.proofs.Refused.{open-refused}
 use Rattle.history.specs.Trace.{Entry}
-use Rattle.history.specs.Counts.{same}
 use Rattle.history.specs.Unbroken.{Unbroken}
 use Rattle.history.specs.History.{State, Opening, Call, opened, openedAs, state, stateFrom, traceFrom}
 use Rattle.history.specs.Openings.{Asked, asks, opens, reopenNumber, leaves, turnsBy, leavesAll, turnsByAll}
@@ -48,7 +47,7 @@ module _ (h : History) (before : List Entry) where
             ∙ ap (λ (es : List Entry). before ++ es)
             (sym (traceFrom-then (opened (h .opening)) (h .calls) c));
       }
-  goes-on (opens plan fits) = by (same (reopenNumber (stateSince h) plan) 0)
+  goes-on (opens plan fits) = by (ℕ-discrete (reopenNumber (stateSince h) plan) 0)
     where
       by :
           (d : Dec (reopenNumber (stateSince h) plan ≡ 0))
@@ -93,15 +92,6 @@ any-order o asked =
 
 -- ---- which openings are accepted
 
--- the test of the sizes goes by the numbers of workers and buckets
-same-sized :
-    (f g : Floor) (board : List ℕ) (listed : ℕ)
-    → f .workers ≡ g .workers
-    → f .buckets ≡ g .buckets
-    → wrongSizes f board listed ≡ wrongSizes g board listed
-unfolding wrongSizes
-same-sized f g board listed workers buckets = rw (workers, buckets)
-
 module _ (o : Opening) (calls : List Call) (plan : Plan) where
   abbrev s : State
   s = state o calls
@@ -122,8 +112,16 @@ module _ (o : Opening) (calls : List Call) (plan : Plan) where
 
   -- and for those it is
   pub same-opens : plan .workers ≡ o .plan .workers → plan .buckets ≡ o .plan .buckets → reopenNumber s plan ≡ 0
-  unfolding openNumber
   same-opens workers buckets =
-      let same =
-      same-sized (planned plan) (s .floor) (s .board) (length (s .records)) (workers ∙ sym (state-workers o calls)) (buckets ∙ sym (state-buckets o calls)) in
-      rw (same ∙ sized)
+      let fits = right-sizes (s .floor) (s .board) _ sized in
+      let same-workers = workers ∙ sym (state-workers o calls) in
+      let same-buckets = buckets ∙ sym (state-buckets o calls) in
+      opens-right (planned plan) (s .board) _
+      (record {
+        some-worker = omega (arith, same-workers, fits .some-worker);
+        workers = omega (arith, same-workers, fits .workers);
+        some-bucket = omega (arith, same-buckets, fits .some-bucket);
+        buckets = omega (arith, same-buckets, fits .buckets);
+        words = omega (arith, same-buckets, fits .words);
+      })
+      (right-listed (s .floor) (s .board) _ sized ∙ sym same-workers)

@@ -3,8 +3,9 @@
 use Prim.Native.Nat.{ℕ}
 use mathlib.Core.Bool.{false}
 use mathlib.Core.List.{List, []}
-use mathlib.Core.Logic.{inl}
+use mathlib.Core.Logic.{inl, Dec·and}
 use mathlib.Core.Path.{_≡_, refl}
+use native.Mathlib.Decide.{ℕ-discrete}
 use native.Mathlib.Omega.{arith}
 use lib.ListN.{length, replicate}
 use Rattle.mark.specs.Word as Word
@@ -62,7 +63,7 @@ repeatedTrace = trace threeWorkers repeatedWord
 -- all that these traces are computed by: what unfolds this unfolds it
 unfoldable pub computed : Unit {0}
 unfolding
-    twoWorkers threeWorkers stateFrom traceFrom sumFrom turnEntries total cut-later cut-by-number found moment-found
+    ℕ-discrete Dec·and twoWorkers threeWorkers stateFrom traceFrom sumFrom turnEntries total cut-later cut-by-number found moment-found
     Calls.openCall Calls.startCall Calls.turned Calls.turnCall Calls.runFrom Calls.runCall
     Refusals.wrongFloor Refusals.wrongSizes
     Refusals.openNumber Refusals.startNumber Refusals.eachNumber Refusals.turnNumber Refusals.runNumber

@@ -1,13 +1,12 @@
 -- What is counted in a trace. Each test answers what its type says, a word of Trace, so that no count goes by anything else.
 use Prim.Native.Nat.{ℕ}
-use mathlib.Core.Bool.{Bool, true, false, cond}
+use mathlib.Core.Bool.{cond}
 use mathlib.Core.List.{List}
-use mathlib.Core.Logic.{_⊎_, inl, inr}
+use mathlib.Core.Logic.{_⊎_, inl, inr, Dec·and}
 use mathlib.Core.Path.{_≡_, refl, ap}
+use native.Mathlib.Decide.{ℕ-discrete}
 use native.Mathlib.Omega.{arith}
-use lib.Dec.{eqb}
 use lib.ListN.{length}
-use borrow.Author.Tests.{eqb-true, eqb-false}
 use Rattle.turn.specs.declared.Action.{Action}
 use Rattle.turn.specs.declared.Action.the-variants.{Read, Store, Won, Lost}
 use Rattle.turn.specs.Worker.{commitPlace, freePlace, closePlace}
@@ -16,14 +15,6 @@ use Rattle.floor.specs.Told.{actionNumber}
 use Rattle.history.specs.Trace.{Entry, Loses, Changes, Commits, Closes, total}
 
 -- ---- tests
-
--- whether two numbers are equal
-abbrev pub same : (m n : ℕ) → Dec (m ≡ n)
-same m n = by (eqb m n) refl
-  where
-    by : (t : Bool) → eqb m n ≡ t → Dec (m ≡ n)
-    by true is = yes (eqb-true m n is)
-    by false isnot = no (eqb-false m n isnot)
 
 -- whether an action is a store
 abbrev pub store? : (a : Action) → Dec (a ≡ Store)
@@ -46,13 +37,7 @@ lost? Store = no (λ is. omega (arith, ap actionNumber is))
 lost? Won = no (λ is. omega (arith, ap actionNumber is))
 lost? Lost = yes refl
 
--- whether both hold
-abbrev pub both? : {A B : Type 0} → Dec A → Dec B → Dec (A × B)
-both? a (no b) = no (λ is. b (is .1))
-both? (yes a) (yes b) = yes (a, b)
-both? (no a) (yes b) = no (λ is. a (is .0))
-
--- whether one of them holds
+-- whether one of two things holds
 abbrev pub either? : {A B : Type 0} → Dec A → Dec B → Dec (A ⊎ B)
 either? (yes a) b = yes (inl a)
 either? (no a) (yes b) = yes (inr b)
@@ -70,15 +55,15 @@ isLost e = lost? (e .report .action)
 
 -- whether it is a change
 abbrev pub isChange : (e : Entry) → Dec (Changes e)
-isChange e = either? (won? (e .report .action)) (both? (same (e .was .place) freePlace) (store? (e .report .action)))
+isChange e = either? (won? (e .report .action)) (Dec·and (ℕ-discrete (e .was .place) freePlace) (store? (e .report .action)))
 
 -- whether it is a commit
 abbrev pub isCommit : (e : Entry) → Dec (Commits e)
-isCommit e = both? (same (e .was .place) commitPlace) (won? (e .report .action))
+isCommit e = Dec·and (ℕ-discrete (e .was .place) commitPlace) (won? (e .report .action))
 
 -- whether it is a close
 abbrev pub isClose : (e : Entry) → Dec (Closes e)
-isClose e = both? (same (e .was .place) closePlace) (won? (e .report .action))
+isClose e = Dec·and (ℕ-discrete (e .was .place) closePlace) (won? (e .report .action))
 
 -- ---- counts
 

@@ -3,12 +3,12 @@
 use Prim.Native.Nat.{ℕ, _^_, _<_}
 use mathlib.Core.List.{List, [], _∷_, _++_}
 use mathlib.Core.Path.{_≡_}
+use native.Mathlib.Decide.{ℕ-discrete}
 use lib.ListN.{length}
 use Rattle.engine.specs.declared.Plan.{Plan}
 use Rattle.engine.specs.Refusals.{openNumber}
 use Rattle.engine.specs.Calls.{planned, openCall}
 use Rattle.history.specs.Trace.{Entry}
-use Rattle.history.specs.Counts.{same}
 use Rattle.history.specs.History.{State, Opening, Call, opened, openedAs, after, entries, state, trace}
 use Rattle.history.specs.Demand.{DemandThree}
 use Rattle.history.specs.Values.{NoValueComesBack}
@@ -72,7 +72,7 @@ reopened h plan fits (no refused) = h
 -- the history after what is asked of it
 abbrev pub goesOn : History → Asked → History
 goesOn h (asks c) = record { opening = h .opening; calls = h .calls ++ (c ∷ []) }
-goesOn h (opens plan fits) = reopened h plan fits (same (reopenNumber (stateSince h) plan) 0)
+goesOn h (opens plan fits) = reopened h plan fits (ℕ-discrete (reopenNumber (stateSince h) plan) 0)
 
 -- after all that was asked: the last opening that was accepted, and the calls since
 unfoldable pub since : History → List Asked → History

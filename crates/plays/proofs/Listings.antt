@@ -21,6 +21,7 @@ use Rattle.sheet.specs.Play.{Desk, shutDesk, openField}
 use Rattle.sheet.specs.Listing.{Ending, fieldsFrom, played, wordsAsked, listing}
 use Rattle.sheet.proofs.Fielding.{first-field}
 use Rattle.history.specs.Numbers.{OneOf}
+use Rattle.history.proofs.Later.{one-each}
 use Rattle.history.specs.History as History
 use Rattle.plays.specs.Points.{Point, Bytes, FloorAccepted}
 use Rattle.plays.specs.Points as Points
@@ -38,11 +39,6 @@ alone {line} ends = never-refused line [] line ends refl
 open-numbers : (plan : Plan) (board : List ℕ) (listed : ℕ) → OneOf (1 ∷ 0 ∷ []) (openNumber (planned plan) board listed)
 unfolding openNumber
 open-numbers plan board listed = by-cases (OneOf (1 ∷ 0 ∷ [])) (wrongSizes (planned plan) board listed) 1 0 (λ is. inl refl) (λ isnot. inr (inl refl))
-
--- the number of one that is refused
-refused-by : {n : ℕ} → OneOf (1 ∷ 0 ∷ []) n → (n ≡ 0 → ⊥) → OneOf everyRefusal n
-refused-by (inl is) some = inl is
-refused-by (inr (inl is)) some = absurd (some is)
 
 module _ (sheet board : List ℕ) (bytes : Bytes sheet) (short : length sheet ≤ 16384) where
   abbrev start : After Desk
@@ -73,7 +69,9 @@ module _ (sheet board : List ℕ) (bytes : Bytes sheet) (short : length sheet �
   opened-listing plan next read true is =
       accepted-listing (record { short = short; plan = plan; next = next; read = read; accepted = eqb-true _ 0 is })
   opened-listing plan next read false isnot =
-      let number = refused-by (subst (OneOf (1 ∷ 0 ∷ [])) (sym (open-stop plan board)) (open-numbers plan board (plan .workers))) (eqb-false _ 0 isnot) in
+      let number =
+      one-each (λ n. (n ≡ 0 → ⊥) → OneOf everyRefusal n) (1 ∷ 0 ∷ []) ((λ some. inl refl), ((λ some. absurd (some refl)), tt)) _
+      (subst (OneOf (1 ∷ 0 ∷ [])) (sym (open-stop plan board)) (open-numbers plan board (plan .workers))) (eqb-false _ 0 isnot) in
       rw (le-ltb 16384 (length sheet) short, read, isnot, open-lists plan board) (alone (in-refusal _ 0 number))
 
   first-listing : (r : Read) → readField sheet 0 ≡ r → NeverBroken (played sheet board .handed)

@@ -1,18 +1,19 @@
 -- Where a listing ends in totals, or in a refusal by another number than 3 and 7, neither R 3 nor R 7 stands anywhere in it: an R stands
 -- nowhere but at the beginning of the last line. Assumes nothing.
 use Prim.Native.Nat.{ℕ, zero, suc, _+_, _/_, _<_}
-use mathlib.Core.Path.{_≡_, sym, ap, _∙_}
+use mathlib.Core.Bool.{Bool, true, _&&_, not, and-eq-true-iff}
+use mathlib.Core.Path.{_≡_, refl, sym, ap, _∙_}
 use mathlib.Core.List.{List, [], _∷_, _++_, head-eq-of-cons-eq, tail-eq-of-cons-eq, nil≢cons}
-use mathlib.Core.Logic.{inl, inr}
 use native.Mathlib.Omega.{arith}
-use lib.Dec.{ltb}
-use borrow.Author.Tests.{ltb-true, lt-ltb}
+use lib.Dec.{eqb, ltb}
+use borrow.Author.Tests.{eqb-false, ltb-true, lt-ltb, not-true}
 use Rattle.mark.proofs.Choices.{by-cases}
 use Rattle.turn.specs.declared.Progress.{Progress}
 use Rattle.turn.specs.declared.Progress.the-variants.{GoesOn, Ended}
 use Rattle.sheet.specs.Line.{decimalIn, decimal, numbers}
 use Rattle.history.specs.Trace.{Entry}
 use Rattle.history.specs.Numbers.{OneOf}
+use Rattle.history.proofs.Later.{one-each}
 use Rattle.plays.specs.Plays.{lineFor, endLines, everyRefusal, EndsIn, in-totals, in-refusal, refusedBy, NeverBroken}
 
 -- ---- bytes that are no R
@@ -82,25 +83,26 @@ other-digit n digit offset rest small is =
     let same : 48 + n ≡ 48 + digit = head-eq-of-cons-eq (tail-eq-of-cons-eq (ap (λ (d : List ℕ). 32 ∷ (d ++ numbers (offset ∷ []))) (sym (one-digit n small)) ∙ is)) in
     omega arith
 
--- 3 and 7 are none of the numbers of refusal, and each has one digit
-module _ {n : ℕ} where
-  digits : OneOf everyRefusal n → n < 10
-  digits (inl is) = omega arith
-  digits (inr (inl is)) = omega arith
-  digits (inr (inr (inl is))) = omega arith
-  digits (inr (inr (inr (inl is)))) = omega arith
-  digits (inr (inr (inr (inr (inl is))))) = omega arith
-  digits (inr (inr (inr (inr (inr (inl is)))))) = omega arith
-  digits (inr (inr (inr (inr (inr (inr (inl is))))))) = omega arith
+-- a number of one digit that is neither 3 nor 7
+record Other (n : ℕ) : Type 0 where
+  one-digit : n < 10
+  not-3 : n ≡ 3 → ⊥
+  not-7 : n ≡ 7 → ⊥
 
-  never : OneOf everyRefusal n → (n ≡ 3 → ⊥) × (n ≡ 7 → ⊥)
-  never (inl is) = (omega arith, omega arith)
-  never (inr (inl is)) = (omega arith, omega arith)
-  never (inr (inr (inl is))) = (omega arith, omega arith)
-  never (inr (inr (inr (inl is)))) = (omega arith, omega arith)
-  never (inr (inr (inr (inr (inl is))))) = (omega arith, omega arith)
-  never (inr (inr (inr (inr (inr (inl is)))))) = (omega arith, omega arith)
-  never (inr (inr (inr (inr (inr (inr (inl is))))))) = (omega arith, omega arith)
+abbrev isOther : ℕ → Bool
+isOther n = ltb n 10 && (not (eqb n 3) && not (eqb n 7))
+
+-- as every number by which a sheet is refused is
+others : (n : ℕ) → OneOf everyRefusal n → Other n
+others n one =
+    let tested = one-each (λ m. isOther m ≡ true) everyRefusal (refl, (refl, (refl, (refl, (refl, (refl, (refl, tt))))))) n one in
+    let first = and-eq-true-iff _ _ .0 tested in
+    let second = and-eq-true-iff _ _ .0 (first .1) in
+    record {
+      one-digit = ltb-true n 10 (first .0);
+      not-3 = eqb-false n 3 (not-true _ (second .0));
+      not-7 = eqb-false n 7 (not-true _ (second .1));
+    }
 
 -- a last line does not begin as a refusal by a digit that no sheet is refused by
 module _ (digit : ℕ) (other : (n : ℕ) → OneOf everyRefusal n → n ≡ digit → ⊥) where
@@ -108,7 +110,7 @@ module _ (digit : ℕ) (other : (n : ℕ) → OneOf everyRefusal n → n ≡ dig
   not-last (in-totals t) before rest is =
       quiet-none _ _ before ((λ r. omega arith), quiet-numbers (t .turns ∷ t .changes ∷ t .lost ∷ t .full ∷ [])) is
   not-last (in-refusal n offset one) before rest is =
-      other n one (other-digit n digit offset (32 ∷ rest) (digits one)
+      other n one (other-digit n digit offset (32 ∷ rest) (others n one .one-digit)
       (at-first _ (numbers (n ∷ offset ∷ [])) before (quiet-numbers (n ∷ offset ∷ [])) is))
 
   -- so it stands nowhere in a listing
@@ -126,6 +128,6 @@ never-refused listing es line ends whole =
       line = line;
       ends = ends;
       whole = whole;
-      no-3 = λ before rest is. nowhere 3 (λ n one. never one .0) es line ends before rest (sym whole ∙ is);
-      no-7 = λ before rest is. nowhere 7 (λ n one. never one .1) es line ends before rest (sym whole ∙ is);
+      no-3 = λ before rest is. nowhere 3 (λ n one. others n one .not-3) es line ends before rest (sym whole ∙ is);
+      no-7 = λ before rest is. nowhere 7 (λ n one. others n one .not-7) es line ends before rest (sym whole ∙ is);
     }

@@ -4,9 +4,10 @@ use Prim.Native.Nat.{ℕ, _*_, _≤_}
 use mathlib.Core.Path.{_≡_, refl, ap, _∙_}
 use mathlib.Core.List.{List, _++_}
 use lib.ListN.{length, replicate, length-replicate}
-use borrow.Author.Tests.{eq-eqb, le-leb}
+use borrow.Author.Tests.{le-leb}
 use Rattle.engine.specs.declared.Plan.{Plan}
-use Rattle.engine.specs.Refusals.{wrongSizes, openNumber}
+use Rattle.engine.specs.Calls.{planned}
+use Rattle.engine.proofs.Sizes.{opens-right}
 use Rattle.sheet.specs.declared.Field.the-variants.{Opening}
 use Rattle.sheet.specs.declared.Read.the-variants.{Whole}
 use Rattle.sheet.specs.Fields.{readField}
@@ -36,7 +37,6 @@ module _ (sheet : List ℕ) where
         → 1 ≤ plan .buckets
         → plan .buckets ≤ 256
         → FloorAccepted sheet (ownBoard sheet)
-    unfolding openNumber wrongSizes
     floor-accepted short some-worker workers some-bucket buckets =
         record {
           short = short;
@@ -45,15 +45,15 @@ module _ (sheet : List ℕ) where
           read = read;
           accepted =
               open-stop plan (ownBoard sheet)
-              ∙ rw (
-                asked-words buckets,
-                le-leb 1 (plan .workers) some-worker,
-                le-leb (plan .workers) 64 workers,
-                le-leb 1 (plan .buckets) some-bucket,
-                le-leb (plan .buckets) 256 buckets,
-                eq-eqb (8 * plan .buckets) (8 * plan .buckets) refl,
-                eq-eqb (plan .workers) (plan .workers) refl,
-              ) refl;
+              ∙ opens-right (planned plan) (ownBoard sheet) (plan .workers)
+              (record {
+                some-worker = some-worker;
+                workers = workers;
+                some-bucket = some-bucket;
+                buckets = buckets;
+                words = asked-words buckets;
+              })
+              refl;
         }
 
   -- the listing of a sheet is the E lines of its history, and the last line

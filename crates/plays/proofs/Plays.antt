@@ -44,11 +44,9 @@ module _ (sheet : List ℕ) where
       absurd (let z : _≡_ {A = ℕ} 0 1 = cc in omega arith)
 
   -- a step leads to one point, by one list of calls
-  same-calls : (p : Point) (cs ds : List Call) (q r : Point) → nextOf sheet p ≡ goes cs q → nextOf sheet p ≡ goes ds r → cs ≡ ds
-  same-calls p cs ds q r one two = let e : goes cs q ≡ goes ds r = sym one ∙ two in cc
-
-  same-point : (p : Point) (cs ds : List Call) (q r : Point) → nextOf sheet p ≡ goes cs q → nextOf sheet p ≡ goes ds r → q ≡ r
-  same-point p cs ds q r one two = let e : goes cs q ≡ goes ds r = sym one ∙ two in cc
+  same-step :
+      (p : Point) (cs ds : List Call) (q r : Point) → nextOf sheet p ≡ goes cs q → nextOf sheet p ≡ goes ds r → (cs ≡ ds) × (q ≡ r)
+  same-step p cs ds q r one two = let e : goes cs q ≡ goes ds r = sym one ∙ two in (cc, cc)
 
   -- so every point is on the way to where the play stops
   one-play :
@@ -61,11 +59,11 @@ module _ (sheet : List ℕ) where
   one-play {p = p} {line = line} (steps {q = m} {cs = as₁} step part) stays last = absurd (stuck p line as₁ m last step)
   one-play {p = p} {r = r} {line = line} (steps {cs = as₁} {ds = bs₁} step part) (steps {ds = bs₂} then whole) last =
       let way =
-      one-play {r = r} {line = line} part (subst (λ (x : Point). Steps sheet x bs₂ r) (sym (same-point p _ _ _ _ step then)) whole) last in
+      one-play {r = r} {line = line} part (subst (λ (x : Point). Steps sheet x bs₂ r) (sym (same-step p _ _ _ _ step then .1)) whole) last in
       record {
         rest = way .rest;
         calls-are =
-            ap₂ (λ (x y : List Call). x ++ y) (sym (same-calls p _ _ _ _ step then)) (way .calls-are)
+            ap₂ (λ (x y : List Call). x ++ y) (sym (same-step p _ _ _ _ step then .0)) (way .calls-are)
             ∙ sym (append-assoc as₁ bs₁ (way .rest));
         goes-on = way .goes-on;
       }

@@ -16,6 +16,7 @@ use Rattle.sheet.specs.Play.{callField, turnAtDesk, turnsIn}
 use Rattle.history.specs.History as History
 use Rattle.history.specs.History.{Call}
 use Rattle.history.specs.Numbers.{OneOf}
+use Rattle.history.proofs.Later.{one-each}
 use Rattle.plays.specs.Points.{Point, Next, goes, over, refused, afterRead, ahead, nextOf, Steps, stays, steps, Bytes}
 use Rattle.plays.specs.Plays.{refusals}
 use Rattle.plays.proofs.Readings.{call-ticket}
@@ -30,17 +31,17 @@ module _ (o : History.Opening) (sheet : List ℕ) (bytes : Bytes sheet) where
   Fine done over = Unit {0}
   Fine done (refused number offset) = OneOf refusals number
 
+  -- where a number is no acceptance, it is one of those by which a sheet is refused
+  abbrev Told : ℕ → Type 0
+  Told n = (n ≡ 0 → ⊥) → OneOf refusals n
+
   module _ (done : List Call) (p : Point) (so : Stands o done p) where
     turn-fine : (i : ℕ) (ts : List ℕ) → Fine done (ahead sheet p (i ∷ ts))
     turn-fine i ts =
         by-cases (Fine done) (eqb (turnAtDesk i (p .left) .stop) 0) _ _
         (λ is. turn-stands o done p so i (eqb-true _ 0 is) (p .field) (p .next) ts)
-        (λ isnot. by (subst (OneOf (0 ∷ 2 ∷ 6 ∷ [])) (sym (turn-stop i (p .left))) (turn-number-is o done p so i)) (eqb-false _ 0 isnot))
-      where
-        by : {n : ℕ} → OneOf (0 ∷ 2 ∷ 6 ∷ []) n → (n ≡ 0 → ⊥) → OneOf refusals n
-        by (inl is) some = absurd (some is)
-        by (inr (inl is)) some = inl is
-        by (inr (inr (inl is))) some = inr (inr (inr (inl is)))
+        (λ isnot. one-each Told (0 ∷ 2 ∷ 6 ∷ []) ((λ some. absurd (some refl)), ((λ some. inl refl), ((λ some. inr (inr (inr (inl refl)))), tt))) _
+        (subst (OneOf (0 ∷ 2 ∷ 6 ∷ [])) (sym (turn-stop i (p .left))) (turn-number-is o done p so i)) (eqb-false _ 0 isnot))
 
     read-fine : (r : Read) → readField sheet (p .next) ≡ r → Fine done (afterRead sheet p r)
     read-fine (Refused place) is = inr (inr (inr (inr (inl refl))))
@@ -48,13 +49,8 @@ module _ (o : History.Opening) (sheet : List ℕ) (bytes : Bytes sheet) where
     read-fine (Whole (Calling c) n) is =
         by-cases (Fine done) (eqb (callField c (p .left) .stop) 0) _ _
         (λ accepted. call-stands o done p so c (call-ticket sheet bytes (p .next) n c is) (eqb-true _ 0 accepted) (p .next) n)
-        (λ isnot. by (call-number-is o done p so c) (eqb-false _ 0 isnot))
-      where
-        by : {n : ℕ} → OneOf (0 ∷ 2 ∷ 4 ∷ 5 ∷ []) n → (n ≡ 0 → ⊥) → OneOf refusals n
-        by (inl is) some = absurd (some is)
-        by (inr (inl is)) some = inl is
-        by (inr (inr (inl is))) some = inr (inl is)
-        by (inr (inr (inr (inl is)))) some = inr (inr (inl is))
+        (λ isnot. one-each Told (0 ∷ 2 ∷ 4 ∷ 5 ∷ []) ((λ some. absurd (some refl)), ((λ some. inl refl), ((λ some. inr (inl refl)), ((λ some. inr (inr (inl refl))), tt))))
+        _ (call-number-is o done p so c) (eqb-false _ 0 isnot))
     read-fine (Whole (Turning span) n) is = rw (append-nil done) (elsewhere o done p so (p .next) n (turnsIn sheet span))
 
     -- whatever comes next is fine
