@@ -12,6 +12,7 @@ pub mod Library
 pub mod Opened
 pub mod Runs
 pub mod Histories
+pub mod Singly
 -- a history as a walk, seen through the mark words, the records and the last ticket
 pub mod View
 pub mod States

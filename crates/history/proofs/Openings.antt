@@ -1,6 +1,6 @@
 -- Whatever is asked, openings among it, what stands then is what the history since the last accepted opening leaves, and the theorems of
 -- histories hold of that. Assumes nothing.
-use Prim.Native.Nat.{ℕ, _^_, _<_}
+use Prim.Native.Nat.{_^_, _<_}
 use mathlib.Core.Bool.{false}
 use mathlib.Core.List.{List, [], _∷_, _++_, append-assoc, append-nil}
 use mathlib.Core.Path.{_≡_, refl, sym, ap, subst, _∙_}

@@ -7,4 +7,5 @@ pub mod Demand
 pub mod Openings
 pub mod Values
 pub mod Unbroken
+pub mod Singly
 pub mod Trials

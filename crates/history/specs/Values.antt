@@ -1,5 +1,5 @@
 -- No value comes back: tickets rise, each is stored once at most, and nothing else is written to a value cell. A state is one between two
--- calls; one inside a run is such a state too, since a run is its turns called one by one (`runs-are-turns`).
+-- calls; one inside a run is such a state of the same history without runs (Singly).
 use Prim.Native.Nat.{ℕ}
 use mathlib.Core.Bool.{cond}
 use mathlib.Core.List.{List, [], _∷_, _++_}

@@ -16,11 +16,10 @@ use Rattle.engine.specs.Refusals.{startNumber}
 use Rattle.engine.specs.Calls.{recordIn, startCall}
 use Rattle.sheet.specs.declared.Call as Field
 use Rattle.sheet.specs.Play.{Desk, seatAt, asked, callField}
-use Rattle.sheet.proofs.Seats.{asked-is}
+use Rattle.sheet.proofs.Seats.{asked-is, asked-known}
 use Rattle.history.specs.Trace.{Entry}
 use Rattle.history.specs.Numbers.{OneOf}
 use Rattle.history.specs.History.{State, Opening, Call, startedAs, opened, state, trace}
-use Rattle.history.proofs.Starting.{not-refused}
 use Rattle.history.proofs.Histories.{stateFrom-then, traceFrom-then}
 use Rattle.plays.specs.Points.{Point, callOf}
 use Rattle.plays.proofs.Asked.{after-call, entries-call}
@@ -33,10 +32,6 @@ module _ (board : List ℕ) (seat : Seat) (w : Worker) (late : Bool) (new : Work
   start-refusal =
       let n = startNumber (seat .floor) board (seat .listed) (seat .worker) w late in
       by-cases (λ (x : Started). x .refusal ≡ n) (eqb n 0) _ _ (λ is. sym (eqb-true n 0 is)) (λ isnot. refl)
-
-  -- one that is accepted is for a worker that has a record
-  start-known : startCall board seat w late new f .refusal ≡ 0 → seat .worker < seat .listed
-  start-known none = not-refused (seat .floor) board (seat .listed) (seat .worker) w late (sym start-refusal ∙ none) .within
 
 module _ (o : Opening) (done : List Call) (p : Point) (so : Stands o done p) (c : Field.Call) where
   abbrev d : Desk
@@ -72,12 +67,7 @@ module _ (o : Opening) (done : List Call) (p : Point) (so : Stands o done p) (c 
     unfolding callField
     known =
         let same = ap (λ (g : Floor). g .workers) (so .stands .floor) in
-        omega (
-          arith,
-          same,
-          asked-is (p .left .words) (seatAt f i) w (λ y. y .refusal ≡ 0 → i < f .workers)
-              (λ late new ticket. start-known (p .left .words) (seatAt f i) w late new _) c accepted,
-        )
+        omega (arith, same, asked-known (p .left .words) (seatAt f i) w c accepted .0)
 
     -- the calls with it
     abbrev more : List Call

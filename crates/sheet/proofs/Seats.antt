@@ -1,9 +1,8 @@
 -- The starts of the engine at a desk's seats: what holds of each, and who they are given to. Assumes nothing.
-use Prim.Native.Nat.{ℕ, _<_}
+use Prim.Native.Nat.{ℕ, _≤_, _<_}
 use mathlib.Core.Bool.{Bool}
 use mathlib.Core.Path.{_≡_}
 use mathlib.Core.List.{List}
-use native.Mathlib.Omega.{arith}
 use lib.Dec.{eqb}
 use borrow.Author.Tests.{leb-false, eqb-true}
 use Rattle.mark.proofs.Choices.{by-cases, passes}
@@ -29,17 +28,19 @@ module _ (board : List ℕ) (s : Seat) (w : Worker) where
       by-cases P (eqb (c .kind) 1) _ _ (λ is. every _ _ (s .floor .last))
       (λ other. by-cases P (eqb (c .kind) 2) _ _ (λ is. every _ _ (c .ticket)) (λ third. every _ _ (s .floor .last)))
 
-  -- a start that is not refused is for a worker below 64
+  -- a start that is not refused is for a worker that there is, and there are 64 at most
   abbrev Known : Started → Type 0
-  Known x = x .refusal ≡ 0 → s .worker < 64
+  Known x = x .refusal ≡ 0 → (s .worker < s .floor .workers) × (s .floor .workers ≤ 64)
 
-  number-known : (late : Bool) → startNumber (s .floor) board (s .listed) (s .worker) w late ≡ 0 → s .worker < 64
+  number-known :
+      (late : Bool)
+      → startNumber (s .floor) board (s .listed) (s .worker) w late ≡ 0
+      → (s .worker < s .floor .workers) × (s .floor .workers ≤ 64)
   unfolding startNumber wrongSizes
   number-known late none =
       let sizes = passes (wrongSizes (s .floor) board (s .listed)) 0 _ none in
       let one = passes (noWorker (s .floor) (s .worker)) 1 _ (sizes .1) in
-      let right = right-sizes (s .floor) board (s .listed) (sizes .0) in
-      omega (arith, right .workers, leb-false (s .floor .workers) (s .worker) (one .0))
+      (leb-false (s .floor .workers) (s .worker) (one .0), right-sizes (s .floor) board (s .listed) (sizes .0) .workers)
 
   start-known : (late : Bool) (new : Worker) (f : Floor) → Known (startCall board s w late new f)
   unfolding startCall
@@ -49,5 +50,5 @@ module _ (board : List ℕ) (s : Seat) (w : Worker) where
       (λ isnot. number-known late)
 
   -- so is one that a call asks for
-  pub asked-known : (c : Call) → asked board s w c .refusal ≡ 0 → s .worker < 64
+  pub asked-known : (c : Call) → asked board s w c .refusal ≡ 0 → (s .worker < s .floor .workers) × (s .floor .workers ≤ 64)
   asked-known = asked-is Known (λ late new ticket. start-known late new _)

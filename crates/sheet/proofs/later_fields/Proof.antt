@@ -257,7 +257,10 @@ returns-5 c =
     (was-started t) (h .if6 .taken) (r .refused4 .ensures)
 
 started-known : (c : tie.Else6 Inv-loop μ-loop) → c .before .before .before .before .before .before .before .before .field .given .0 .0 .worker < 64
-started-known c = let t = c .before .before in asked-known _ _ _ _ (sym (ap (λ x. x .refusal) (was-started t)) ∙ c .if6 .left)
+started-known c =
+    let t = c .before .before in
+    let known = asked-known _ _ _ _ (sym (ap (λ x. x .refusal) (was-started t)) ∙ c .if6 .left) in
+    omega (arith, known .0, known .1)
 
 loop-again-2 : tie.Need-loop-again-2 Inv-loop μ-loop
 loop-again-2 c =
