@@ -140,7 +140,7 @@ static void test_buckets(void) {
     REFUSED(DESK_BROKEN_BUCKET, refused_count());
 }
 
-/* a run stops before its first refused turn, tells its number, and the turns done stand: the ninth of twenty is refused by `number` */
+/* a run whose ninth turn of twenty is refused by `number` has done eight and tells that number */
 static void stops(uint8_t number, uint8_t ninth) {
     for (unsigned i = 0; i < 20; i++) many[i] = i == 8 ? ninth : 0;
     copy_hall(&two, &one);

@@ -1,4 +1,4 @@
--- Two outcomes that meet the promise of a call are equal: the board where the call can change it, and what is handed back. Each is
+-- §12.2: two outcomes that meet the promise of a call are equal: the board where the call can change it, and what is handed back. Each is
 -- over the record that the call's contract cites. Assumes nothing.
 use Prim.Native.Nat.{ℕ}
 use mathlib.Core.Path.{_≡_}

@@ -1,4 +1,4 @@
--- A run is its turns one after another, and stops before the first that is refused. Assumes nothing.
+-- §4.10, §11.1: a run is its turns one after another, up to the first that is refused. Assumes nothing.
 use Prim.Native.Nat.{ℕ, _+_, _≤_}
 use mathlib.Core.Bool.{false}
 use mathlib.Core.Path.{_≡_, refl, sym, ap, _∙_}

@@ -1,5 +1,5 @@
--- Each call's whole outcome, as a function of what it is given: what it answers, and the board, the records and the floor that it
--- leaves. A refused call answers its number and leaves everything as it came.
+-- Each call's whole outcome, as a function of what it is given: what it answers, and what it leaves of board, records and floor (§12.1). A
+-- refused call answers its number and leaves everything as it came (§7.1).
 use Prim.Native.Nat.{ℕ, _+_, _*_}
 use mathlib.Core.Bool.{Bool, false, cond}
 use mathlib.Core.List.{List, [], _∷_}
@@ -33,11 +33,11 @@ pub record Opened : Type 0 where
   pub floor : Floor
   pub records : List Worker
 
--- the floor that a plan asks for: "the last ticket becomes 0"
+-- §2.1, §2.10: the floor that a plan asks for; no ticket is spent yet
 abbrev pub planned : Plan → Floor
 planned p = record { workers = p .workers; buckets = p .buckets; last = 0 }
 
--- "Every bucket gets that version, empty marks and zeros; every worker becomes idle; the last ticket becomes 0."
+-- §2.10: an opening
 unfoldable pub openCall : List ℕ → Floor → List Worker → ℕ → Plan → After Opened
 openCall board f records listed p =
     cond (eqb (openNumber (planned p) board listed) 0)
@@ -53,7 +53,7 @@ layCall board f listed p =
 
 -- ---- start
 
--- a start with this number of refusal, or 0: where it is accepted the record becomes `new` and the floor `g`
+-- §7.1: a start with this number of refusal, or 0: where it is accepted the record becomes `new` and the floor `g`
 abbrev pub startMade : ℕ → Floor → Worker → Worker → Floor → Started
 startMade number f w new g =
     cond (eqb number 0) (record { worker = new; floor = g; refusal = 0 }) (record { worker = w; floor = f; refusal = number })
@@ -62,30 +62,30 @@ startMade number f w new g =
 unfoldable pub startCall : List ℕ → Seat → Worker → Bool → Worker → Floor → Started
 startCall board s w late new g = startMade (startNumber (s .floor) board (s .listed) (s .worker) w late) (s .floor) w new g
 
--- "acceptance makes it the last ticket"
+-- §3.5: the ticket of an accepted insert is the floor's last
 abbrev pub spending : Floor → ℕ → Floor
 spending f ticket = record { workers = f .workers; buckets = f .buckets; last = ticket }
 
--- the start of a look
+-- §3.4: the start of a look
 abbrev pub lookCall : List ℕ → Seat → Worker → ℕ → Started
 lookCall board s w lot = startCall board s w false (lookFor lot) (s .floor)
 
--- the start of an insert
+-- §3.4: the start of an insert
 abbrev pub insertCall : List ℕ → Seat → Worker → Bid → Started
 insertCall board s w bid =
     startCall board s w (spent (s .floor) (bid .ticket)) (insertOf (bid .lot) (bid .ticket)) (spending (s .floor) (bid .ticket))
 
--- the start of a remove
+-- §3.4: the start of a remove
 abbrev pub removeCall : List ℕ → Seat → Worker → ℕ → Started
 removeCall board s w lot = startCall board s w false (removeOf lot) (s .floor)
 
 -- ---- turn
 
--- a turn that is done is the place table's, on the bucket of the worker's lot
+-- §4.1: a turn that is done is the place table's, on the bucket where the worker's lot belongs
 abbrev pub turnDone : Floor → List ℕ → Worker → Step → After Turned
 turnDone f board w s = after (withBucket board (bucketOf (w .key) (f .buckets)) (s .bucket)) (doing s)
 
--- what a turn with this number of refusal, or 0, comes to
+-- §7.1: what a turn with this number of refusal, or 0, comes to
 unfoldable pub turned : ℕ → Floor → List ℕ → Worker → After Turned
 turned number f board w = cond (eqb number 0) (turnDone f board w (turn (bucketFor f board (w .key)) w)) (after board (refusing number w))
 
@@ -105,21 +105,21 @@ turnCall board s w = turned (turnNumber (s .floor) board (s .listed) (s .worker)
 
 -- ---- run
 
--- "A change is a won swap or the store of place 10."
+-- §4.9: 1 for a change, else 0
 abbrev pub changes : ℕ → Action → ℕ
 changes place Read = 0
 changes place Store = cond (eqb place freePlace) 1 0
 changes place Won = 1
 changes place Lost = 0
 
--- a lost swap is one
+-- 1 for a lost swap, else 0
 abbrev pub losses : Action → ℕ
 losses Read = 0
 losses Store = 0
 losses Won = 0
 losses Lost = 1
 
--- the totals with one turn more, done at a place
+-- §4.10: the totals with one turn more, done at a place
 abbrev pub tallied : ℕ → Report → Totals → Totals
 tallied place r t =
     record {
@@ -151,19 +151,19 @@ pub record Ran : Type 0 where
 abbrev pub standing : List ℕ → List Worker → Totals → ℕ → After Ran
 standing board records totals stop = after board (record { records = records; totals = totals; stop = stop })
 
--- what stands for a record past the end of the list, whose worker has no turn (2)
+-- what stands for a record past the end of the list, whose worker has no turn (decision 40)
 abbrev pub blank : Worker
 blank = record { kind = 0; place = 0; key = 0; ticket = 0; slot = 0; word = 0; held = 0; seen = 0 }
 
--- a worker's record in a list
+-- §3.1: a worker's record in a list
 abbrev pub recordIn : List Worker → ℕ → Worker
 recordIn records i = getD records i blank
 
--- a worker's seat on a floor with this list
+-- §3.1: a worker's seat on a floor with this list
 abbrev pub seatIn : Floor → List Worker → ℕ → Seat
 seatIn f records i = record { floor = f; listed = length records; worker = i }
 
--- what the turn of worker t came to: the run goes on from there, or "stops before the first refused turn; turns done stand"
+-- §4.10: what the turn of worker t came to: the run goes on from there, or it stops and leaves what was done before
 abbrev pub goOn : (After Ran → After Ran) → ℕ → ℕ → List ℕ → Worker → Answer → Ran → After Ran
 goOn rest t place board w (Refused number) r = standing board (r .records) (r .totals) number
 goOn rest t place board w (Done report) r = rest (standing board (set (r .records) t w) (tallied place report (r .totals)) 0)
@@ -174,12 +174,12 @@ oneTurn rest f t w s =
     let x : After Turned = turned (eachNumber f (s .words) t w) f (s .words) w in
     goOn rest t (w .place) (x .words) (x .handed .worker) (x .handed .answer) (s .handed)
 
--- the turns of a list from where a run stands: "A run of turns (worker numbers ..)"
+-- §4.10: the turns of a list, from where a run stands
 unfoldable pub runFrom : Floor → List ℕ → After Ran → After Ran
 runFrom f [] s = s
 runFrom f (t ∷ ts) s = oneTurn (runFrom f ts) f t (recordIn (s .handed .records) t) s
 
--- a run: 1 and 9 refuse it whole
+-- §4.10, §7.1: a run; 1 and 9 refuse it whole
 unfoldable pub runCall : List ℕ → Floor → List Worker → ℕ → List ℕ → After Ran
 runCall board f records listed turns =
     cond (eqb (runNumber f board listed turns) 0)
@@ -188,23 +188,23 @@ runCall board f records listed turns =
 
 -- ---- show and count
 
--- "handed back as that eight-word part of the lent board"; "A refused show hands back an empty part"
+-- §2.8: the words of the lot's bucket; none where the show is refused
 unfoldable pub showCall : List ℕ → Floor → ℕ → List ℕ
 showCall board f lot = cond (eqb (showNumber f board lot) 0) (bucketFor f board lot) []
 
--- "starting at eight times the bucket number"; an empty part starts where the board does
+-- §2.8: where they begin on the board; a part without words begins where the board does
 unfoldable pub showStart : List ℕ → Floor → ℕ → ℕ
 showStart board f lot = cond (eqb (showNumber f board lot) 0) (8 * bucketOf lot (f .buckets)) 0
 
--- so many words of eight bytes on from where a reference points, in the same block of memory: "with no copy"
+-- §2.8: so many words of eight bytes on from where a reference points, in the same block of memory: so it is no copy (decision 32)
 abbrev pub wordsOn : ℕ × ℕ → ℕ → ℕ × ℕ
 wordsOn p n = (p .0, p .1 + 8 * n)
 
--- the lots on the board, or the number alone
+-- §2.9: the lots on the board, or the number alone
 unfoldable pub countCall : List ℕ → Floor → Counted
 countCall board f = cond (eqb (countNumber f board) 0) (Lots (lotsOn board (f .buckets))) (Refusal (countNumber f board))
 
--- 01's number for each case of a count: a refusal's own, and 0 for a number of lots
+-- §14.9: the number of each case of a count: a refusal's own, and 0 for a number of lots
 abbrev pub countedNumber : Counted → ℕ
 countedNumber (Refusal number) = number
 countedNumber (Lots lots) = 0

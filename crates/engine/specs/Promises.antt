@@ -1,4 +1,4 @@
--- What each call promises. Each part is an equation with a function of what the call is given.
+-- What each call promises (§12.1). Each part is an equation with a function of what the call is given.
 use Prim.Native.Nat.{ℕ}
 use mathlib.Core.Path.{_≡_}
 use mathlib.Core.List.{List}

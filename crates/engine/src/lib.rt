@@ -15,7 +15,7 @@ mod lay; // an opened board
 mod take; // a turn on the board
 mod lots; // the lots on the board
 
-// The number of workers W, the number of buckets N, and the last ticket.
+// §2.1: the number of workers W, the number of buckets N, and the last ticket.
 #[repr(C)]
 pub struct Floor {
     pub workers: usize,
@@ -58,7 +58,7 @@ pub struct Started {
     pub refusal: u8,
 }
 
-// "turns done, changes, lost swaps, full rounds"
+// §4.10: what the turns done come to.
 #[repr(C)]
 pub struct Totals {
     pub turns: u32,
@@ -233,7 +233,7 @@ pub fn run_refusal(floor: Floor, words: usize, listed: usize, count: usize) -> u
     0
 }
 
-// The bucket of a lot, as that part of the lent board; an empty part where the show is refused.
+// §2.8, §14.4: the bucket of a lot, as that part of the lent board; an empty part where the show is refused.
 pub fn show(board: &[u64], floor: Floor, lot: u64) -> &[u64]
     ensures { λ r. ⌜ Shown (board .entry) floor lot r ⌝ }
 {
@@ -254,7 +254,7 @@ pub fn show_start(board: &[u64], floor: Floor, lot: u64) -> usize
     0
 }
 
-// The number of refusal of a show on the same arguments, or 0.
+// §2.8: the number of refusal of a show on the same arguments, or 0.
 pub fn show_refusal(board: &[u64], floor: Floor, lot: u64) -> u8
     ensures { λ r. ⌜ ShowTested (now (board .entry)) floor lot r ⌝ }
 {
@@ -267,7 +267,7 @@ pub fn show_refusal(board: &[u64], floor: Floor, lot: u64) -> u8
     0
 }
 
-// The lots on the board.
+// §2.9: the lots on the board.
 pub fn count(board: &[u64], floor: Floor) -> Counted
     ensures { λ r. ⌜ CountDone (now (board .entry)) floor r ⌝ }
 {

@@ -1,9 +1,9 @@
-// Whether floor, board and list fit together: number 1.
+// Whether floor, board and list fit together.
 ghost use mathlib.Core.Path.{_≡_};
 ghost use Rattle.engine.specs.Refusals.{wrongWords, wrongListed, wrongFloor, wrongSizes};
 use crate::Floor;
 
-// "W or N outside its range, board not 8N words"
+// §6.1: W, N or the number of words is wrong.
 fn has_wrong_words(floor: Floor, words: usize) -> bool
     ensures { λ r. ⌜ r ≡ wrongWords floor words ⌝ }
 {
@@ -22,7 +22,7 @@ fn has_wrong_words(floor: Floor, words: usize) -> bool
     words != 8 * floor.buckets
 }
 
-// ".. or list not W records where the call takes one"
+// §6.1: or the number of records is.
 pub fn words_are_wrong(floor: Floor, words: usize, listed: usize) -> bool
     ensures { λ r. ⌜ r ≡ wrongListed floor words listed ⌝ }
 {

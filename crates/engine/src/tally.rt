@@ -30,7 +30,7 @@ fn changes(place: u8, action: Action) -> u32
     }
 }
 
-// The store of place 10 is a change.
+// §4.9: one store is a change.
 fn freed(place: u8) -> u32
     ensures { λ r. ⌜ r ≡ changes place Action.Store ⌝ }
 {

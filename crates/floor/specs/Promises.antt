@@ -1,5 +1,5 @@
--- What each call on the lent list promises; a show and the test of one promise what the engine's do. Each part is an equation with a
--- function of what the call is given.
+-- What each call on the lent list promises (§12.1); a show and the test of one promise what the engine's do. Each part is an equation with
+-- a function of what the call is given.
 use Prim.Native.Nat.{ℕ}
 use mathlib.Core.Path.{_≡_}
 use mathlib.Core.List.{List}

@@ -1,4 +1,4 @@
--- What each call hands back beside the board and the list: 01's numbers and values, for a caller that knows no enum.
+-- What each call hands back beside the board and the list, in numbers, for a caller that knows no enum.
 use Prim.Native.Nat.{ℕ}
 use mathlib.Core.Bool.{Bool, true, false}
 use Rattle.turn.specs.declared.Action.{Action}
@@ -15,24 +15,24 @@ use Rattle.floor.specs.declared.TurnOutcome.{TurnOutcome}
 use Rattle.floor.specs.declared.RunOutcome.{RunOutcome}
 use Rattle.floor.specs.declared.CountOutcome.{CountOutcome}
 
--- "read, store, won or lost", from 1 on; 0 is no action
+-- §14.9: the actions from 1 on; 0 is no action (decision 45)
 abbrev pub actionNumber : Action → ℕ
 actionNumber Read = 1
 actionNumber Store = 2
 actionNumber Won = 3
 actionNumber Lost = 4
 
--- "the call goes on, or it ended with this answer"
+-- §14.9: whether the call has ended
 abbrev pub isEnded : Progress → Bool
 isEnded GoesOn = false
 isEnded (Ended answer) = true
 
--- the answer that a call ended with, and 0 while it goes on
+-- §14.9: the answer that a call ended with, and 0 while it goes on
 abbrev pub endedWith : Progress → ℕ
 endedWith GoesOn = 0
 endedWith (Ended answer) = answer
 
--- a turn's answer: "Each returns its number alone", so a refused turn has 0 everywhere else
+-- §7.1, §14.9: a turn's answer; one that is refused has its number, and 0 everywhere else
 abbrev pub turnTold : Answer → TurnOutcome
 turnTold (Refused number) = record { refusal = number; action = 0; ended = false; full = false; answer = 0 }
 turnTold (Done report) =
@@ -52,7 +52,7 @@ startTold s = record { refusal = s .refusal; floor = s .floor }
 abbrev pub runTold : Running → RunOutcome
 runTold r = record { totals = r .totals; stop = r .stop }
 
--- a count's answer
+-- §14.9: a count's answer
 abbrev pub countTold : Counted → CountOutcome
 countTold (Refusal number) = record { refusal = number; lots = 0 }
 countTold (Lots lots) = record { refusal = 0; lots = lots }

@@ -53,7 +53,7 @@ pub struct CountOutcome {
     pub refusal: u8,
 }
 
-// Opens a floor. `floor` is the one that stood before, and comes back where the opening is refused.
+// §1.1: opens a floor. `floor` is the one that stood before, and comes back where the opening is refused.
 #[no_mangle]
 pub extern "C" fn desk_open_floor(
     board: &mut [u64],
@@ -72,7 +72,7 @@ pub extern "C" fn desk_open_floor(
     }
 }
 
-// Starts a look on a worker.
+// §1.1: starts a look on a worker.
 #[no_mangle]
 pub extern "C" fn desk_start_look(
     board: &[u64],
@@ -98,7 +98,7 @@ pub extern "C" fn desk_start_look(
     }
 }
 
-// Starts an insert on a worker.
+// §1.1: starts an insert on a worker.
 #[no_mangle]
 pub extern "C" fn desk_start_insert(
     board: &[u64],
@@ -124,7 +124,7 @@ pub extern "C" fn desk_start_insert(
     }
 }
 
-// Starts a remove on a worker.
+// §1.1: starts a remove on a worker.
 #[no_mangle]
 pub extern "C" fn desk_start_remove(
     board: &[u64],
@@ -150,7 +150,7 @@ pub extern "C" fn desk_start_remove(
     }
 }
 
-// Gives a worker one turn.
+// §1.1: gives a worker one turn.
 #[no_mangle]
 pub extern "C" fn desk_turn(
     board: &mut [u64],
@@ -164,7 +164,7 @@ pub extern "C" fn desk_turn(
     told::turn(said)
 }
 
-// Runs a list of turns, each a worker's number, until one is refused.
+// §1.1: runs a list of turns, each a worker's number, until one is refused.
 #[no_mangle]
 pub extern "C" fn desk_run(
     board: &mut [u64],
@@ -187,7 +187,7 @@ pub extern "C" fn desk_run(
     told::run(run)
 }
 
-// The bucket of a lot, as that part of the lent board; an empty part where the show is refused.
+// §1.1, §14.4: the bucket of a lot, as that part of the lent board; an empty part where the show is refused.
 pub fn show(board: &[u64], floor: Floor, lot: u64) -> &[u64]
     ensures { λ r. ⌜ Shown (board .entry) floor lot r ⌝ }
 {
@@ -206,7 +206,7 @@ pub extern "C" fn desk_show(board: &[u64], floor: Floor, lot: u64) -> Part
     }
 }
 
-// The number of refusal of a show on the same arguments, or 0.
+// §2.8: the number of refusal of a show on the same arguments, or 0.
 #[no_mangle]
 pub extern "C" fn desk_show_refusal(board: &[u64], floor: Floor, lot: u64) -> u8
     ensures { λ r. ⌜ ShowTested (now (board .entry)) floor lot r ⌝ }
@@ -214,7 +214,7 @@ pub extern "C" fn desk_show_refusal(board: &[u64], floor: Floor, lot: u64) -> u8
     engine::show_refusal(board, floor, lot)
 }
 
-// Counts the lots on the board.
+// §1.1: counts the lots on the board.
 #[no_mangle]
 pub extern "C" fn desk_count(board: &[u64], floor: Floor) -> CountOutcome
     ensures { λ r. ⌜ CountLeft (now (board .entry)) floor r ⌝ }

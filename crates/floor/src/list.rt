@@ -13,6 +13,7 @@ use turn::Said;
 use turn::Worker;
 use turn::record;
 
+// §14.8: a record out of the list.
 pub fn take_at(records: &[Worker], worker: usize) -> Worker
     ensures { λ r. ⌜ r ≡ getD (now (records .entry)) worker blank ⌝ }
 {
@@ -23,6 +24,7 @@ pub fn take_at(records: &[Worker], worker: usize) -> Worker
     }
 }
 
+// §14.8: a record back into it.
 pub fn put_at(records: &mut [Worker], worker: usize, w: Worker)
     ensures { λ _. ⌜ now (records .exit) ≡ set (now (records .entry)) worker w ⌝ }
 {
@@ -57,7 +59,7 @@ pub fn make_idle(records: &mut [Worker], count: usize)
     }
 }
 
-// One turn of a worker of the list: its record is taken out, has its turn, and is put back.
+// §14.8: one turn of a worker of the list: its record is taken out, has its turn, and is put back.
 pub fn turn_at(board: &mut [u64], records: &mut [Worker], floor: Floor, worker: usize) -> Said
     ensures { λ r. ⌜ after (now (board .exit)) (onList (now (records .exit)) r) ≡ sayIn (now (board .entry)) (now (records .entry)) floor worker ⌝ }
 {

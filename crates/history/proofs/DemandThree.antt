@@ -88,7 +88,7 @@ module _ (o : Opening) (calls : List Call) where
         let has = demand-three .moment at (inr lost) in
         (has, demand-three .loses (at-moment has) lost)
 
-    -- a won swap has a moment, and after it no other worker committed or closed in that bucket
+    -- a won swap has a moment, and after it no other worker committed or closed there
     pub every-won-swap :
         Wins (at .turn) → (has : HasMoment (at .before) (at .turn)) × None (CommittedOrClosedByAnother (at .turn)) (has .newer)
     every-won-swap won =

@@ -1,5 +1,5 @@
--- Histories reach every kind of turn that demand 3 speaks of, also between a turn and its moment: trials P6 and P11 of document 01 do,
--- computed turn by turn. Quotations are document 01's. Assumes nothing.
+-- Histories reach every kind of turn that demand 3 speaks of, also between a turn and its moment: trials P6 and P11 do, computed turn by
+-- turn. Assumes nothing.
 use Prim.Native.Nat.{ℕ}
 use mathlib.Core.Bool.{false}
 use mathlib.Core.List.{List, []}
@@ -42,12 +42,12 @@ lent workers accepted =
       version-fits = omega arith;
     }
 
--- "floor W 2, N 1, version 0"
+-- the floor of P6
 unfoldable pub twoWorkers : Opening
 unfolding Refusals.openNumber Refusals.wrongSizes
 twoWorkers = lent 2 refl
 
--- "W 3"
+-- the floor of P11
 unfoldable pub threeWorkers : Opening
 unfolding Refusals.openNumber Refusals.wrongSizes
 threeWorkers = lent 3 refl
@@ -111,12 +111,12 @@ pub record Totals (o : Opening) (calls : List Call) (turns changed lost inserted
   pub inserts-are : inserts o calls ≡ inserted
   pub removes-are : removes o calls ≡ removed
 
--- "T 34 6 1 0", with two inserts and two removes: at most 6 could be lost
+-- §9.5: 34 turns, 6 changes and 1 lost swap, with two inserts and two removes: at most 6 could be lost
 pub sleeper-totals : Totals twoWorkers sleeper 34 6 1 2 2
 unfolding computed
 sleeper-totals = record { turns-are = refl; changes-are = refl; lost-are = refl; inserts-are = refl; removes-are = refl }
 
--- "6 changes, 1 lost.", in 48 turns, with four inserts
+-- §10.11: 6 changes and 1 lost swap in 48 turns, with four inserts
 pub repeated-totals : Totals threeWorkers repeatedWord 48 6 1 4 0
 unfolding computed
 repeated-totals = record { turns-are = refl; changes-are = refl; lost-are = refl; inserts-are = refl; removes-are = refl }
@@ -166,7 +166,7 @@ pub record Repeats : Type 0 where
   pub freed : Some (λ e. AnothersIn (won .entry) e × Frees e) (moment .newer)
   pub claimed : Some (λ e. AnothersIn (won .entry) e × Claims e) (moment .newer)
 
--- "the mark word is again the one A read, and A's ninth turn, a swap, wins", although others changed it in between
+-- §10.11: before A swaps, the mark word is the one that it has read, although others changed it in between; and the swap is won
 pub word-repeats : Repeats
 unfolding computed
 word-repeats =

@@ -76,7 +76,7 @@ oneIf (no isnot) = 0
 abbrev pub howMany : {P : Entry → Type 0} → ((e : Entry) → Dec (P e)) → List Entry → ℕ
 howMany test trace = total (λ e. oneIf (test e)) trace
 
--- the lost swaps of a trace
+-- §11.3: the lost swaps of a trace, by the reports of its turns
 abbrev pub lostSwaps : List Entry → ℕ
 lostSwaps trace = howMany isLost trace
 

@@ -7,13 +7,13 @@ use Rattle.history.specs.Counts.{lostSwaps}
 use Rattle.history.specs.Moment.{AtTurn, AtMoment, HasMoment, ChangedByAnother, CommittedOrClosedByAnother}
 use Rattle.history.specs.History.{Opening, Call, trace, mostLost}
 
--- what is demanded of an opening and the calls since
+-- §11.3: what is demanded of an opening and the calls since
 pub record DemandThree (o : Opening) (calls : List Call) : Type 0 where
   -- a swap, won or lost, has a moment, in its bucket and in its call: the last turn of its worker that read the mark word whole or changed it
   pub moment : (at : AtTurn (trace o calls)) → Swaps (at .turn) → HasMoment (at .before) (at .turn)
-  -- a swap loses only if another worker changed that mark word since its moment
+  -- where a swap is lost, another worker has changed that mark word since its moment
   pub loses : (at : AtMoment (trace o calls)) → Loses (at .turn) → Some (ChangedByAnother (at .turn)) (at .between)
-  -- a swap wins only if no other worker committed or closed in that bucket since its moment
+  -- where it is won, no other worker has committed or closed in its bucket since then
   pub wins : (at : AtMoment (trace o calls)) → Wins (at .turn) → None (CommittedOrClosedByAnother (at .turn)) (at .between)
-  -- the lost swaps of the trace are at most (W - 1)(2I + R)
+  -- no more swaps of the trace are lost than (W - 1)(2I + R)
   pub bound : lostSwaps (trace o calls) ≤ mostLost o calls

@@ -1,6 +1,5 @@
--- What "an opened board" means: "that board, records and floor come from one opening and have since gone only through the engine, each
--- call taking what the one before left". A history is that opening and any list of calls, accepted or refused. Quotations are
--- document 01's; what each call does is said in the engine's Calls, and nowhere else.
+-- What an opened board is. A history is an opening that was accepted and any list of calls since, accepted or refused. What each call does
+-- is said in the engine's Calls, and nowhere else.
 use Prim.Native.Nat.{ℕ, _+_, _-_, _*_, _%_, _^_, _<_}
 use mathlib.Core.Bool.{cond}
 use mathlib.Core.List.{List, [], _∷_, _++_}
@@ -22,7 +21,7 @@ use Rattle.history.specs.Trace.{Entry}
 
 -- ---- the state, and the opening that it comes from
 
--- board, floor and records, as one call leaves them and the next one takes them
+-- §2.11: board, floor and records, as one call leaves them and the next one takes them
 pub record State : Type 0 where
   pub board : List ℕ
   pub floor : Floor
@@ -36,12 +35,12 @@ recordOf s i = recordIn (s .records) i
 abbrev pub seatOf : State → ℕ → Seat
 seatOf s i = seatIn (s .floor) (s .records) i
 
--- an opening that is accepted, with anything on the board and in the list that are lent to it: so W is 1 to 64, and N 1 to 256
+-- §2.11: an opening that is accepted, with anything on the board and in the list that are lent to it: so W is 1 to 64, and N 1 to 256
 pub record Opening : Type 0 where
   pub lent : State
   pub plan : Plan
   pub accepted : openNumber (planned plan) (lent .board) (length (lent .records)) ≡ 0
-  -- "Opening takes a 32-bit version"
+  -- §2.10: a version has 32 bits
   pub version-fits : plan .version < 2 ^ 32
 
 -- W
@@ -52,13 +51,13 @@ workersOf o = o .plan .workers
 abbrev pub openedAs : After Opened → State
 openedAs x = record { board = x .words; floor = x .handed .floor; records = x .handed .records }
 
--- the state that the opening leaves
+-- §2.10: the state that the opening leaves
 abbrev pub opened : Opening → State
 opened o = openedAs (openCall (o .lent .board) (o .lent .floor) (o .lent .records) (length (o .lent .records)) (o .plan))
 
 -- ---- calls
 
--- "A ticket is a 32-bit number"
+-- §3.5: a ticket has 32 bits
 pub record Ticket : Type 0 where
   pub number : ℕ
   pub fits : number < 2 ^ 32
@@ -67,7 +66,7 @@ pub record Ticket : Type 0 where
 abbrev pub ticket : ℕ → Ticket
 ticket n = record { number = n % 2 ^ 32; fits = omega arith }
 
--- the calls of the library on an opened board, with any numbers
+-- §1.1: the calls of the library on an opened board, with any numbers
 pub data Call : Type 0 where
   -- a worker starts a look for a lot
   look : ℕ → ℕ → Call
@@ -119,7 +118,7 @@ turnedAs s i x = record { board = x .words; floor = s .floor; records = set (s .
 abbrev pub ranAs : State → After Ran → State
 ranAs s x = record { board = x .words; floor = s .floor; records = x .handed .records }
 
--- the state after a call; a show and a count change nothing
+-- §2.11, §12.5: the state after a call, by the engine's own; a show and a count change nothing
 abbrev pub after : State → Call → State
 after s (look i lot) = startedAs s i (lookBy s i lot)
 after s (insert i lot t) = startedAs s i (insertBy s i lot t)
@@ -141,7 +140,7 @@ entryOf s i (Done report) =
 abbrev pub turnEntry : State → ℕ → List Entry
 turnEntry s i = entryOf s i (turnBy s i .handed .answer)
 
--- the first turn's entry, and then the rest's; "stops before the first refused turn", which has none
+-- §4.10: the first turn's entry, and then the rest's; a turn that is refused has none, and none comes after it
 abbrev pub andThen : List Entry → List Entry → List Entry
 andThen [] rest = []
 andThen (e ∷ es) rest = e ∷ rest
@@ -186,7 +185,7 @@ sumFrom f s (c ∷ cs) = f s c + sumFrom f (after s c) cs
 abbrev pub begun : ℕ → Started → ℕ
 begun kind x = cond (eqb (x .refusal) 0) kind 0
 
--- "kind (0 idle, 1 look, 2 insert, 3 remove)" of the call that a call of the library begins; 0 where it begins none
+-- the kind of the call that a call of the library begins; 0 where it begins none
 abbrev pub begins : State → Call → ℕ
 begins s (look i lot) = begun lookKind (lookBy s i lot)
 begins s (insert i lot t) = begun insertKind (insertBy s i lot t)
@@ -201,7 +200,7 @@ abbrev pub isStart : ℕ → State → Call → ℕ
 isStart kind s c = cond (eqb (begins s c) kind) 1 0
 
 module _ (o : Opening) (calls : List Call) where
-  -- the state that an opening and these calls leave
+  -- §2.11: the state that an opening and these calls leave
   abbrev pub state : State
   state = stateFrom (opened o) calls
 
@@ -209,14 +208,14 @@ module _ (o : Opening) (calls : List Call) where
   abbrev pub trace : List Entry
   trace = traceFrom (opened o) calls
 
-  -- I, the inserts that were accepted
+  -- §11.3: I, the inserts that were accepted
   abbrev pub inserts : ℕ
   inserts = sumFrom (isStart insertKind) (opened o) calls
 
-  -- R, the removes that were accepted
+  -- §11.3: R, the removes that were accepted
   abbrev pub removes : ℕ
   removes = sumFrom (isStart removeKind) (opened o) calls
 
-  -- (W - 1)(2I + R), which demand 3 allows
+  -- §11.3: (W - 1)(2I + R), the most swaps that may be lost
   abbrev pub mostLost : ℕ
   mostLost = (workersOf o - 1) * (2 * inserts + removes)

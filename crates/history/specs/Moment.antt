@@ -17,7 +17,7 @@ AnothersIn y e = (Own y e → ⊥) × (e .bucket ≡ y .bucket)
 abbrev pub Sees : Entry → Type 0
 Sees e = ReadsWhole e ⊎ Changes e
 
--- x is the moment of y, with these entries between them: no later turn of that worker is one
+-- §11.3: x is the moment of y, with these entries between them: no later turn of that worker is one
 pub record IsMoment (x : Entry) (between : List Entry) (y : Entry) : Type 0 where
   pub own : Own y x
   pub sees : Sees x
@@ -54,6 +54,6 @@ HasMoment before y = Cut (λ x between. IsMoment x between y × OneCall x betwee
 abbrev pub ChangedByAnother : Entry → Entry → Type 0
 ChangedByAnother y e = AnothersIn y e × Changes e
 
--- an entry of another worker that committed or closed in that bucket
+-- an entry of another worker that made a commit or a close there
 abbrev pub CommittedOrClosedByAnother : Entry → Entry → Type 0
 CommittedOrClosedByAnother y e = AnothersIn y e × (Commits e ⊎ Closes e)

@@ -1,5 +1,5 @@
 -- Openings among the calls. One that is refused leaves everything as it was. One that is accepted begins a new history: what is said of
--- "the trace", of I and of R is then said of the calls since.
+-- the trace, of I and of R is then said of the calls since.
 use Prim.Native.Nat.{ℕ, _^_, _<_}
 use mathlib.Core.List.{List, [], _∷_, _++_}
 use mathlib.Core.Path.{_≡_}
@@ -74,7 +74,7 @@ abbrev pub goesOn : History → Asked → History
 goesOn h (asks c) = record { opening = h .opening; calls = h .calls ++ (c ∷ []) }
 goesOn h (opens plan fits) = reopened h plan fits (ℕ-discrete (reopenNumber (stateSince h) plan) 0)
 
--- after all that was asked: the last opening that was accepted, and the calls since
+-- §2.11: after all that was asked: the last opening that was accepted, and the calls since
 unfoldable pub since : History → List Asked → History
 since h [] = h
 since h (a ∷ more) = since (goesOn h a) more

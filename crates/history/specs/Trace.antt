@@ -1,5 +1,5 @@
--- The trace: an entry for each turn done, in the order in which they were done, and what document 01 calls such a turn. Everything is
--- told from the entry alone: whose turn it was, where, and what it reported. Quotations are document 01's.
+-- The trace: an entry for each turn done, in the order in which they were done, and what the rules call such a turn. Everything is told
+-- from the entry alone: whose turn it was, where, and what it reported.
 use Prim.Native.Nat.{ℕ, _+_}
 use mathlib.Core.List.{List, [], _∷_, _++_}
 use mathlib.Core.Logic.{_⊎_}
@@ -19,11 +19,11 @@ pub record Entry : Type 0 where
 
 -- ---- what an entry is
 
--- a swap that won
+-- §4.8: a swap that won
 abbrev pub Wins : Entry → Type 0
 Wins e = e .report .action ≡ Won
 
--- a swap that lost
+-- §4.8: a swap that lost
 abbrev pub Loses : Entry → Type 0
 Loses e = e .report .action ≡ Lost
 
@@ -31,31 +31,31 @@ Loses e = e .report .action ≡ Lost
 abbrev pub Swaps : Entry → Type 0
 Swaps e = Wins e ⊎ Loses e
 
--- a won swap by which an insert makes its slot valid
+-- §4.11: a won swap by which an insert makes its slot valid
 abbrev pub Commits : Entry → Type 0
 Commits e = (e .was .place ≡ commitPlace) × Wins e
 
--- a won swap by which a remove empties a valid slot
+-- §4.11: a won swap by which a remove empties a valid slot
 abbrev pub Closes : Entry → Type 0
 Closes e = (e .was .place ≡ closePlace) × Wins e
 
--- the store by which an insert gives its slot back
+-- §4.11: the store by which an insert gives its slot back
 abbrev pub Frees : Entry → Type 0
 Frees e = (e .was .place ≡ freePlace) × (e .report .action ≡ Store)
 
--- a won swap by which an insert takes an empty slot
+-- §4.11: a won swap by which an insert takes an empty slot
 abbrev pub Claims : Entry → Type 0
 Claims e = (e .was .place ≡ claimPlace) × Wins e
 
--- "A change is a won swap or the store of place 10."
+-- §4.9: a change of the mark word
 abbrev pub Changes : Entry → Type 0
 Changes e = Wins e ⊎ Frees e
 
--- "read mark word into word" is place 1; no other place reads it whole
+-- §5.1: the mark word is read whole, which no other place does
 abbrev pub ReadsWhole : Entry → Type 0
 ReadsWhole e = e .was .place ≡ readPlace
 
--- "the call goes on"
+-- §4.8: the call goes on
 abbrev pub Continues : Entry → Type 0
 Continues e = e .report .progress ≡ GoesOn
 

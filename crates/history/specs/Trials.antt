@@ -1,32 +1,31 @@
--- Trials P6 and P11 of document 01, as the calls of a history. Quotations are document 01's.
+-- Trials P6 and P11 as the calls of a history (decision 78).
 use Prim.Native.Nat.{ℕ}
 use mathlib.Core.List.{List, [], _∷_, _++_}
 use lib.ListN.{replicate}
 use Rattle.engine.specs.declared.Plan.{Plan}
 use Rattle.history.specs.History.{Call, insert, remove, run, ticket}
 
--- "Version 0, N 1, unless said.", and so many workers
+-- one bucket and version 0, as the trials have it, and so many workers
 abbrev pub planFor : ℕ → Plan
 planFor workers = record { workers = workers; buckets = 1; version = 0 }
 
--- "eleven turns of 0", and the like
+-- so many turns of one worker
 abbrev pub turnsOf : ℕ → ℕ → Call
 turnsOf i n = run (replicate n i)
 
--- the worker that 01 calls A
+-- the worker that P11 calls A
 abbrev pub A : ℕ
 A = 0
 
--- the worker that 01 calls B
+-- the worker that P11 calls B
 abbrev pub B : ℕ
 B = 1
 
--- the worker that 01 calls C
+-- the worker that P11 calls C
 abbrev pub C : ℕ
 C = 2
 
--- "worker 0 insert lot 7 ticket 1; eleven turns of 0; worker 1 remove 7; three turns of 1; worker 0 remove 7; four of 0; worker 0 insert 7
--- ticket 2; eleven of 0; five of 1"
+-- §10.6: worker 1 pauses before its swap; worker 0 closes the lot and puts it up again on another ticket; worker 1 goes on
 abbrev pub sleeper : List Call
 sleeper =
     insert 0 7 (ticket 1)
@@ -40,8 +39,7 @@ sleeper =
     ∷ turnsOf 1 5
     ∷ []
 
--- "B inserts 7, 8 turns; C inserts 7, ends at its 11th with 1; B goes on to its 18th turn; A inserts 8, 8 turns; B frees its slot at its
--- 19th, answer 0; C inserts 9, 9 turns"
+-- §10.11: after A has read the mark word B gives its slot back, and C claims the same slot
 abbrev pub wordRepeats : List Call
 wordRepeats =
     insert B 7 (ticket 1)
@@ -56,10 +54,10 @@ wordRepeats =
     ∷ turnsOf C 9
     ∷ []
 
--- "the mark word is again the one A read, and A's ninth turn, a swap, wins"
+-- §10.11: and then A's swap
 abbrev pub repeatedWord : List Call
 repeatedWord = wordRepeats ++ turnsOf A 1 ∷ []
 
--- "Ticket 1 after 1: 5.", and "W 64: .. 64 gives 2" for a worker number that is the floor's own number of workers
+-- §10.7, §10.13: a ticket that was taken before, and a worker whose number is the number of workers
 abbrev pub refusedStarts : List Call
 refusedStarts = insert 0 7 (ticket 1) ∷ insert 1 8 (ticket 1) ∷ remove 2 7 ∷ []

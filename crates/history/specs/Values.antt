@@ -51,7 +51,7 @@ tickets o calls = ticketsFrom (opened o) calls
 
 -- ---- the theorem
 
--- what holds after every opening and every list of calls
+-- §3.6: what holds after every opening and every list of calls
 pub record NoValueComesBack (o : Opening) (calls : List Call) : Type 0 where
   -- the accepted tickets rise, from 1 at least
   pub rising : Rising 0 (tickets o calls)

@@ -41,7 +41,7 @@ module _ (w : ℕ) where
   unfolding version markOf byte7 wordOf
   fields = omega (arith, shr-shr w 32 8, shr-shr w 40 8, shr-shr w 48 8)
 
-  -- a word whose byte 7 is 0 is the sum that document 01 writes
+  -- §2.5, §14.5: a word whose byte 7 is 0 is the sum of its version and its marks, each at its place
   pub packed : byte7 w ≡ 0 → wordOf (version w) (markOf w 0) (markOf w 1) (markOf w 2) ≡ w
   packed none = omega (arith, fields)
 

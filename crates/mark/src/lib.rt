@@ -4,14 +4,16 @@ ghost use mathlib.Core.Path.{_≡_};
 ghost use Prim.Native.Nat.{_+_, _*_};
 ghost use Rattle.mark.specs.Word.{version, markOf, setMark, nextVersion, bump, firstEmpty, wellFormed};
 
-// Marks: 0 empty, 1 valid, 2 being inserted.
+// §2.6: the mark of a slot with nothing in it.
 pub const EMPTY: u8 = 0;
 
+// §2.6: of one whose lot is on the board.
 pub const VALID: u8 = 1;
 
+// §2.6: of one that an insert has claimed.
 pub const BEING_INSERTED: u8 = 2;
 
-// What stands for a slot where there is none, as in a record's held.
+// §3.2: what stands for a slot where there is none, as in a record's held.
 pub const NO_SLOT: u8 = 3;
 
 // How far a slot's mark stands from the low end, in bits.
@@ -21,6 +23,7 @@ fn mark_shift(slot: u8) -> u32
     32 + 8 * (slot as u32)
 }
 
+// §14.5: shifts and masks.
 #[no_mangle]
 pub extern "C" fn mark_of(word: u64, slot: u8) -> u8
     ensures { λ r. ⌜ r ≡ markOf word slot ⌝ }
@@ -31,6 +34,7 @@ pub extern "C" fn mark_of(word: u64, slot: u8) -> u8
     ((word >> mark_shift(slot)) & 255) as u8
 }
 
+// §14.5: the same for setting one.
 pub fn with_mark(word: u64, slot: u8, mark: u8) -> u64
     ensures { λ r. ⌜ r ≡ setMark word slot mark ⌝ }
 {
@@ -48,7 +52,7 @@ pub extern "C" fn version_of(word: u64) -> u32
     (word & 4294967295) as u32
 }
 
-// "the version part plus one, 4,294,967,295 going to 0"
+// §5.9, §14.7: any version has a next one.
 fn next_version(version: u32) -> u32
     ensures { λ r. ⌜ r ≡ nextVersion version ⌝ }
 {
@@ -62,7 +66,7 @@ pub fn with_next_version(word: u64) -> u64
     ((word >> 32) << 32) | (next_version(version_of(word)) as u64)
 }
 
-// The first slot whose mark is 0, or no slot.
+// §4.7: the lowest slot that is empty, or no slot.
 pub fn first_empty(word: u64) -> u8
     ensures { λ r. ⌜ r ≡ firstEmpty word ⌝ }
 {
@@ -78,7 +82,7 @@ pub fn first_empty(word: u64) -> u8
     NO_SLOT
 }
 
-// Each mark is at most 2, and byte 7 is zero.
+// §3.7: no mark is over 2, and byte 7 is zero.
 pub fn is_well_formed(word: u64) -> bool
     ensures { λ r. ⌜ r ≡ wellFormed word ⌝ }
 {

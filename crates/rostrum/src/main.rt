@@ -1,9 +1,9 @@
-// The program at the rostrum: reads a sheet from standard input, and writes its listing.
+// The program at the rostrum.
 ghost use Rattle.sheet.specs.Promises.{ListingWritten};
 use sheet::LIMIT;
 use sheet::ROOM;
 
-// The listing of a sheet, on this program's own board.
+// §2.2, §14.2: the listing of a sheet, on this program's own board.
 fn listed(sheet: &[u8], out: &mut [u8; ROOM]) -> usize
     ensures { λ r. ⌜ ListingWritten (now (sheet .entry)) (now (out .entry)) (now (out .exit)) r ⌝ }
 {
@@ -12,6 +12,7 @@ fn listed(sheet: &[u8], out: &mut [u8; ROOM]) -> usize
     sheet::list(sheet, &mut board[..words], out)
 }
 
+// §1.2: a sheet comes in, and its listing goes out.
 fn main() {
     let mut sheet = [0u8; LIMIT + 1];
     let mut out = [0u8; ROOM];

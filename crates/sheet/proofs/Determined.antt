@@ -1,4 +1,4 @@
--- Two outcomes that meet the promise of a sheet are equal. Each is over the record that the function's contract cites. Assumes nothing.
+-- §12.2: two outcomes that meet the promise of a sheet are equal. Each is over the record that the function's contract cites. Assumes nothing.
 use Prim.Native.Nat.{ℕ}
 use mathlib.Core.Path.{_≡_}
 use mathlib.Core.List.{List}

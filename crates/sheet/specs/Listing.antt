@@ -1,4 +1,4 @@
--- The whole listing, as a function of the sheet. Quotations are document 01's.
+-- The whole listing, as a function of the sheet.
 use Prim.Native.Nat.{ℕ, zero, suc, _*_}
 use mathlib.Core.Bool.{cond}
 use mathlib.Core.List.{List, [], _++_}
@@ -20,11 +20,11 @@ Ending = After (List ℕ)
 abbrev pub listedFirst : List ℕ → Ending → Ending
 listedFirst lines x = after (x .words) (lines ++ x .handed)
 
--- "On a refusal instead 'R number offset', .. and nothing after."
+-- §9.3: a refusal is the last line
 abbrev pub refused : ℕ → ℕ → After Desk → Ending
 refused number offset s = after (s .words) (refusalLine number offset)
 
--- "at the end 'T turns changes lost full'"
+-- §9.2: at the end of the sheet the totals are
 abbrev pub over : After Desk → Ending
 over s = after (s .words) (totalsLine (s .handed .totals))
 
@@ -36,7 +36,7 @@ afterField rest long at next o =
     (cond (eqb next long) (over (o .left)) (rest next (o .left)))
     (refused (o .stop) at (o .left)))
 
--- what was read at a place: "in a field 8 comes before the engine's refusals"
+-- §6.8, §8.6: what was read at a place; the engine is asked only where it is whole
 abbrev pub oneField : (ℕ → After Desk → Ending) → List ℕ → ℕ → After Desk → Read → Ending
 oneField rest sheet at s (Refused place) = refused 8 place s
 oneField rest sheet at s (Whole field next) = afterField rest (length sheet) at next (fieldDone sheet field s)
@@ -46,22 +46,22 @@ unfoldable pub fieldsFrom : ℕ → List ℕ → ℕ → After Desk → Ending
 fieldsFrom zero sheet at s = after (s .words) []
 fieldsFrom (suc more) sheet at s = oneField (fieldsFrom more sheet) sheet at s (readField sheet at)
 
--- the sheet on a lent board: "Size (9) is tested first"; a sheet has no more fields than bytes, or one that is refused
+-- §6.9, §8.6: the sheet on a lent board; its size comes first. A sheet has no more fields than bytes, or one that is refused
 unfoldable pub played : List ℕ → List ℕ → Ending
 played sheet board =
     cond (ltb 16384 (length sheet)) (refused 9 0 (after board shutDesk)) (fieldsFrom (suc (length sheet)) sheet 0 (after board shutDesk))
 
--- the words of board that a reading asks for: "exactly 8N words"
+-- §2.2: the words of board that a reading asks for
 abbrev pub wordsFor : Read → ℕ
 wordsFor (Refused place) = 0
 wordsFor (Whole (Opening p) next) = cond (leb (p .buckets) 256) (8 * p .buckets) 0
 wordsFor (Whole (Calling c) next) = 0
 wordsFor (Whole (Turning t) next) = 0
 
--- what a sheet's floor asks for, of the program's 2,048 words
+-- §2.2: what a sheet's floor asks for, of the program's own words
 unfoldable pub wordsAsked : List ℕ → ℕ
 wordsAsked sheet = wordsFor (readField sheet 0)
 
--- THE LISTING OF A SHEET, on as much of the program's own board as its floor asks for
+-- §1.2: THE LISTING OF A SHEET, on as much of the program's own board as its floor asks for
 unfoldable pub listing : List ℕ → List ℕ
 listing sheet = played sheet (replicate (wordsAsked sheet) 0) .handed

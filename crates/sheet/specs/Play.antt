@@ -1,5 +1,5 @@
 -- What a field does: the lines that it lists, and the board, the records, the floor and the totals that it leaves. It goes by the
--- engine's own calls. Quotations are document 01's.
+-- engine's own calls.
 use Prim.Native.Nat.{ℕ, _-_}
 use mathlib.Core.Bool.{cond}
 use mathlib.Core.List.{List, [], _∷_, _++_}
@@ -72,7 +72,7 @@ recordOf d i = recordIn (d .records) i
 abbrev pub opened : List ℕ → Opened → Totals → Outcome
 opened board o totals = outcome [] (after board (record { floor = o .floor; records = o .records; totals = totals })) (o .refusal)
 
--- the opening that a plan asks for, with as many records as workers
+-- §2.10, §8.2: the opening that a plan asks for, with as many records as workers
 unfoldable pub openField : Plan → After Desk → Outcome
 openField p s =
     let x : After Opened = openCall (s .words) (s .handed .floor) (s .handed .records) (p .workers) p in
@@ -80,7 +80,7 @@ openField p s =
 
 -- ---- call
 
--- a call is the engine's start of its kind
+-- §3.4, §8.3: a call is the engine's start of its kind
 unfoldable pub asked : List ℕ → Seat → Worker → Call → Started
 asked board seat w c =
     cond (eqb (c .kind) lookKind) (lookCall board seat w (c .lot))
@@ -101,12 +101,12 @@ callField c s =
 
 -- ---- turns
 
--- "as each call ends"
+-- §9.1: the line of a call that has ended; one that goes on has none
 abbrev pub endedLine : ℕ → ℕ → ℕ → Progress → List ℕ
 endedLine turn worker kind GoesOn = []
 endedLine turn worker kind (Ended answer) = endLine turn worker kind answer
 
--- what a turn of worker i came to, the totals with it being t: "turns numbered from 1"
+-- §9.1: what a turn of worker i came to; its number is how many turns are done with it
 abbrev pub turnListed : ℕ → Worker → List ℕ → Worker → Answer → Desk → Outcome
 turnListed i w board v (Refused number) d = outcome [] (after board d) number
 turnListed i w board v (Done report) d =
@@ -132,13 +132,13 @@ unfoldable pub turnsDone : List ℕ → After Desk → Outcome
 turnsDone [] s = outcome [] s 0
 turnsDone (i ∷ is) s = andThen (turnAtDesk i s) (turnsDone is)
 
--- the turns that stand in the sheet, "each a worker"
+-- §8.4: the turns that stand in the sheet
 abbrev pub turnsIn : List ℕ → Span → List ℕ
 turnsIn sheet span = take (span .end - span .start) (drop (span .start) sheet)
 
 -- ---- a field
 
--- what each field does
+-- §8.5: what each field does
 abbrev pub fieldDone : List ℕ → Field → After Desk → Outcome
 fieldDone sheet (Opening p) s = openField p s
 fieldDone sheet (Calling c) s = callField c s

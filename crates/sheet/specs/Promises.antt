@@ -1,4 +1,4 @@
--- What the public functions promise, the program's `listed`, and of the private ones those whose promise has several parts.
+-- What the public functions promise (§12.1), the program's `listed`, and of the private ones those whose promise has several parts.
 use Prim.Native.Nat.{ℕ, _≤_, _<_}
 use mathlib.Core.Path.{_≡_}
 use mathlib.Core.List.{List}

@@ -16,11 +16,11 @@ use turn::Worker;
 use turn::record;
 use turn::refusal;
 
-mod reading; // a field of the sheet: read whole, or refused with its place
+mod reading; // the fields of the sheet
 mod line; // a line of the listing
 mod play; // a start and a turn of one worker
 
-// "sheet over 16,384 bytes" is refused.
+// §6.9: the most bytes that a sheet may have.
 pub const LIMIT: usize = 16384;
 
 // Every listing fits: 37 bytes for each 13 of the longest sheet, and a last line of 26.
@@ -46,7 +46,7 @@ pub enum Field {
     Turning(Span),
 }
 
-// "A field is either read whole or refused with its place": whole with the place after it.
+// §8.5, §14.6: a field that was read, with the place after it, or the place of one that cannot be.
 pub enum Read {
     Whole(Field, usize),
     Refused(usize),
@@ -86,6 +86,7 @@ pub fn list(sheet: &[u8], board: &mut [u64], out: &mut [u8; ROOM]) -> usize
     fields(sheet, board, out)
 }
 
+// §14.6: the first field, and then the others.
 fn fields(sheet: &[u8], board: &mut [u64], out: &mut [u8]) -> usize
     requires { ⌜ (length (now sheet) ≤ 16384) × (length (now out) ≡ longest) ⌝ }
     ensures { λ r. ⌜ Listed (fieldsFrom (length (now (sheet .entry)) + 1) (now (sheet .entry)) 0 (after (now (board .entry)) shutDesk))
@@ -112,7 +113,7 @@ fn fields(sheet: &[u8], board: &mut [u64], out: &mut [u8]) -> usize
     later_fields(sheet, board, out, floor, next)
 }
 
-// The fields after the first, which ends at a place. The records stay here: a start and a turn are given their worker's alone, so that
+// §14.6: the fields after the first, which ends at a place. The records stay here: a start and a turn are given their worker's alone, so that
 // no array is ever copied. A field's turns are those from `turn` on to `end`.
 fn later_fields(
     sheet: &[u8],

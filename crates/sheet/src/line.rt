@@ -35,7 +35,7 @@ fn number(out: &mut [u8], at: usize, n: u64, places: usize) -> usize
     digits(out, next, n, places)
 }
 
-// "E turn worker kind answer"
+// §9.1: a call has ended.
 pub fn ended(out: &mut [u8], at: usize, turn: u32, worker: u8, kind: u8, answer: u64) -> usize
     requires { ⌜ (turn ≤ 16384) × (at + 37 ≤ length (now out)) ⌝ }
     ensures { λ r. ⌜ Wrote (now (out .entry)) at (endLine turn worker kind answer) (now (out .exit)) r × (r ≤ at + 37) ⌝ }
@@ -48,7 +48,7 @@ pub fn ended(out: &mut [u8], at: usize, turn: u32, worker: u8, kind: u8, answer:
     put(out, fourth, b'\n')
 }
 
-// "T turns changes lost full"
+// §9.2: the totals.
 pub fn totals(out: &mut [u8], at: usize, totals: Totals) -> usize
     requires { ⌜ Few 16384 totals × (at + 26 ≤ length (now out)) ⌝ }
     ensures { λ r. ⌜ Wrote (now (out .entry)) at (totalsLine totals) (now (out .exit)) r ⌝ }
@@ -61,7 +61,7 @@ pub fn totals(out: &mut [u8], at: usize, totals: Totals) -> usize
     put(out, fourth, b'\n')
 }
 
-// "R number offset"
+// §9.3: a refusal.
 pub fn refused(out: &mut [u8], at: usize, why: u8, offset: usize) -> usize
     requires { ⌜ (offset ≤ 16384) × (at + 12 ≤ length (now out)) ⌝ }
     ensures { λ r. ⌜ Wrote (now (out .entry)) at (refusalLine why offset) (now (out .exit)) r ⌝ }

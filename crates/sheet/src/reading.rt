@@ -17,7 +17,7 @@ const CALL: u8 = 2;
 
 const TURNS: u8 = 3;
 
-// So many bytes from a place on as a number, high byte first.
+// §8.1: so many bytes from a place on as a number, high byte first.
 fn number(sheet: &[u8], at: usize, bytes: usize) -> u64
     requires { ⌜ (bytes ≤ 8) × (at + bytes ≤ length (now sheet)) ⌝ }
     ensures { λ r. ⌜ (r ≡ numberAt (now (sheet .entry)) at bytes) × (r < 256 ^ bytes) ⌝ }
@@ -31,7 +31,7 @@ fn number(sheet: &[u8], at: usize, bytes: usize) -> u64
     n
 }
 
-// "floor, 7 bytes: W (1), N (2), version (4); first and only first"
+// §8.2: a floor.
 fn opening(sheet: &[u8], at: usize, length: usize) -> Read
     requires { ⌜ Value (now sheet) at length ⌝ }
     ensures { λ r. ⌜ r ≡ openingAt (now (sheet .entry)) at length ⌝ }
@@ -50,7 +50,7 @@ fn opening(sheet: &[u8], at: usize, length: usize) -> Read
     Read::Whole(Field::Opening(plan), at + 10)
 }
 
-// "10 or 14 bytes": 14 for an insert
+// §8.3: an insert has its ticket behind the lot.
 fn call_fits(kind: u8, length: usize) -> bool
     ensures { λ r. ⌜ r ≡ callFits kind length ⌝ }
 {
@@ -73,7 +73,7 @@ fn ticket(sheet: &[u8], at: usize, kind: u8, length: usize) -> u32
     0
 }
 
-// "call: worker (1), kind 1..3 (1), lot (8), and for an insert ticket (4)"
+// §8.3: a call.
 fn calling(sheet: &[u8], at: usize, length: usize) -> Read
     requires { ⌜ Value (now sheet) at length ⌝ }
     ensures { λ r. ⌜ r ≡ callingAt (now (sheet .entry)) at length ⌝ }
@@ -97,7 +97,7 @@ fn calling(sheet: &[u8], at: usize, length: usize) -> Read
     Read::Whole(Field::Calling(call), at + 3 + length)
 }
 
-// "turns: one or more bytes, each a worker"
+// §8.4: turns.
 fn turning(sheet: &[u8], at: usize, length: usize) -> Read
     requires { ⌜ Value (now sheet) at length ⌝ }
     ensures { λ r. ⌜ r ≡ turningAt at length ⌝ }
@@ -113,7 +113,7 @@ fn turning(sheet: &[u8], at: usize, length: usize) -> Read
     Read::Whole(Field::Turning(Span { start, end }), end)
 }
 
-// The field whose tag stands at a place.
+// §8.5: the field whose tag stands at a place.
 pub fn read(sheet: &[u8], at: usize) -> Read
     ensures { λ r. ⌜ r ≡ readField (now (sheet .entry)) at ⌝ }
 {

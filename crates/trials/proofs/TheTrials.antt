@@ -1,4 +1,4 @@
--- "Those marked P are proved together by a single statement over one list of them." The engine's own calls are computed, turn by turn.
+-- The trials P1 to P11, by one statement about one list (§12.6). The engine's own calls are computed, turn by turn.
 use mathlib.Core.Path.{refl}
 use Rattle.mark.specs.Word as Word
 use Rattle.turn.specs.Worker as Record
@@ -11,7 +11,7 @@ use Rattle.engine.specs.Calls as Calls
 use Rattle.trials.specs.Trial.{AllHold, playedFrom, moreTurns}
 use Rattle.trials.specs.Trials.{trials}
 
--- P1 to P11 hold: what comes of each, line by line, is what document 01 says of it
+-- §12.6: P1 to P11 hold: what comes of each, line by line, is what it says
 pub the-trials-hold : AllHold trials
 unfolding
     playedFrom moreTurns

@@ -1,5 +1,5 @@
 -- What a trial is, and what it means that it holds: the engine's own calls are made one after another, and each comes to what the
--- trial says of it. Quotations are document 01's.
+-- trial says of it.
 use Prim.Native.Nat.{ℕ, zero, suc, _+_, _-_, _*_}
 use mathlib.Core.Path.{_≡_}
 use mathlib.Core.Bool.{cond}

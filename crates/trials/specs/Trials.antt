@@ -1,23 +1,22 @@
--- The trials of document 01 that are marked P, each under its own sentence there. "Version 0, N 1, unless said." Where a trial has
--- turns, its last totals are those that the listing of its sheet ends with.
+-- The trials P1 to P11. Where a trial has turns, its last totals are those that the listing of its sheet ends with.
 use Prim.Native.Nat.{ℕ}
 use mathlib.Core.List.{List, [], _∷_, _++_}
 use Rattle.trials.specs.Trial.{Trial, _⇒_, opens, looks, inserts, removes, turns, totals, markWord, wordRead, placeOf, lastTicket}
 use Rattle.trials.specs.Trial.{accepted, refused, goesOn, wins, loses, ends, counts, is}
 
--- the worker that 01 calls A
+-- the worker that P8 and P11 call A
 abbrev pub A : ℕ
 A = 0
 
--- the worker that 01 calls B
+-- the worker that P8 and P11 call B
 abbrev pub B : ℕ
 B = 1
 
--- the worker that 01 calls C
+-- the worker that P11 calls C
 abbrev pub C : ℕ
 C = 2
 
--- "P1 look on an empty bucket: 6 turns, 0."
+-- §10.1: a look finds nothing in an empty bucket
 abbrev pub P1 : Trial
 P1 =
     opens 1 1 0 ⇒ accepted
@@ -26,7 +25,7 @@ P1 =
     ∷ totals ⇒ counts 6 0 0 0
     ∷ []
 
--- "insert 7 ticket 1", on a board opened at a version; the mark word that it leaves
+-- the first bid for lot 7, on a board opened at a version, and the mark word that it leaves
 abbrev pub firstBid : ℕ → ℕ → Trial
 firstBid version word =
     opens 1 1 version ⇒ accepted
@@ -36,15 +35,15 @@ firstBid version word =
     ∷ totals ⇒ counts 11 2 0 0
     ∷ []
 
--- "P2 insert 7 ticket 1: 11 turns, 1; mark word 4,294,967,297."
+-- §10.2: the first bid
 abbrev pub P2 : Trial
 P2 = firstBid 0 4294967297
 
--- "P3 the same, version 4,294,967,295: mark word 4,294,967,296."
+-- §10.3: after the highest version comes 0
 abbrev pub P3 : Trial
 P3 = firstBid 4294967295 4294967296
 
--- "P4 after P2, remove 7: 4 turns, 1; mark word 1."
+-- §10.4: the lot is closed
 abbrev pub P4 : Trial
 P4 =
     P2
@@ -54,7 +53,7 @@ P4 =
     ∷ totals ⇒ counts 15 3 0 0
     ∷ []
 
--- "P5 after P2, insert 7 ticket 2: 5 turns, 0, no change; ticket 2 is spent."
+-- §10.5: a bid for a lot that stands changes nothing, and its ticket is spent
 abbrev pub P5 : Trial
 P5 =
     P2
@@ -66,7 +65,7 @@ P5 =
     ∷ inserts 0 8 2 ⇒ refused 5
     ∷ []
 
--- "P6 the sleeper sheet's 34 turns."
+-- §10.6: the sleeper
 abbrev pub P6 : Trial
 P6 =
     opens 2 1 0 ⇒ accepted
@@ -87,7 +86,7 @@ P6 =
     ∷ markWord ⇒ is 2
     ∷ []
 
--- "P7 ticket 0 at opening: 5. Ticket 1 after 1: 5."
+-- §10.7: tickets that are not above the last
 abbrev pub P7 : Trial
 P7 =
     opens 2 1 0 ⇒ accepted
@@ -99,8 +98,7 @@ P7 =
     ∷ inserts 1 8 2 ⇒ accepted
     ∷ []
 
--- "P8 two inserts of lot 7, seven turns each, then A swaps and wins, B loses; A goes on alone to its end at its 11th turn with 1, then
--- B ends at its 13th with 0; 2 changes, 1 lost."
+-- §10.8: two bids for one lot at the same time
 abbrev pub P8 : Trial
 P8 =
     opens 2 1 0 ⇒ accepted
@@ -117,7 +115,7 @@ P8 =
     ∷ markWord ⇒ is 4294967297
     ∷ []
 
--- "P9 three valid lots, insert of a fourth: 10 turns, one full round, place 1."
+-- §10.9: a fourth lot finds no slot
 abbrev pub P9 : Trial
 P9 =
     opens 1 1 0 ⇒ accepted
@@ -134,7 +132,7 @@ P9 =
     ∷ placeOf 0 ⇒ is 1
     ∷ []
 
--- "P10 insert lot 0, then look: its ticket in 4 turns."
+-- §10.10: lot 0 is a lot like any other
 abbrev pub P10 : Trial
 P10 =
     opens 1 1 0 ⇒ accepted
@@ -145,9 +143,7 @@ P10 =
     ∷ totals ⇒ counts 15 2 0 0
     ∷ []
 
--- "P11 W 3: B inserts 7, 8 turns; C inserts 7, ends at its 11th with 1; B goes on to its 18th turn; A inserts 8, 8 turns; B frees its
--- slot at its 19th, answer 0; C inserts 9, 9 turns; the mark word is again the one A read, and A's ninth turn, a swap, wins. 6 changes,
--- 1 lost."
+-- §10.11: the mark word comes back, and the swap of who remembers it is won
 abbrev pub P11 : Trial
 P11 =
     opens 3 1 0 ⇒ accepted
@@ -169,6 +165,6 @@ P11 =
     ∷ totals ⇒ counts 48 6 1 0
     ∷ []
 
--- "one list of them"
+-- §12.6: all of them
 abbrev pub trials : List Trial
 trials = P1 ∷ P2 ∷ P3 ∷ P4 ∷ P5 ∷ P6 ∷ P7 ∷ P8 ∷ P9 ∷ P10 ∷ P11 ∷ []

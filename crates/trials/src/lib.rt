@@ -1,1 +1,1 @@
-// The trials of document 01 that are marked P, as data, and the one theorem that they all hold. There is no function here.
+// The trials P1 to P11 (§10), as data, and the one theorem that they all hold. There is no function here.

@@ -1,5 +1,5 @@
--- A turn keeps the bucket's length, goes by one word and changes no other, makes of that word what it and the worker's record say, and
--- changes none where it reports a read or a lost swap. Assumes nothing.
+-- §4.1, §11.2: one memory action. A turn keeps the bucket's length, goes by one word and changes no other, makes of that word what it and
+-- the worker's record say, and changes none where it reports a read or a lost swap. Assumes nothing.
 use Prim.Native.Nat.{ℕ, zero, suc, _<_}
 use mathlib.Core.Bool.{Bool, true, false, cond}
 use mathlib.Core.Path.{_≡_, refl, sym, ap, _∙_}

@@ -107,7 +107,7 @@ remove-kept lot = sound-not-broken _ (sound-of (removeOf lot) (beginning refl re
 
 -- ---- an accepted turn
 
--- "When a call ends the record becomes idle.", and while it goes on the worker is busy
+-- §4.3: a call that has ended leaves its worker idle, and while it goes on the worker is busy
 abbrev pub Idles : Progress → Worker → Type 0
 Idles GoesOn v = isIdle v ≡ false
 Idles (Ended answer) v = v ≡ idle

@@ -156,7 +156,7 @@ module _ (b : List ℕ) (w : Worker) (few : w .slot ≤ 2) where
 
     -- ---- what follows a swap, a store and the first read
 
-    -- "A swap wins when the mark word equals the expected word."
+    -- §4.4: how a swap comes out
     swaps :
         (expected new : ℕ) (won : Stepped)
         → expects w ≡ expected

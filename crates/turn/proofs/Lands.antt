@@ -82,7 +82,7 @@ pub data Lands (b : List ℕ) (w : Worker) : Step → Type 0 where
       → s ≤ 2
       → (Aimed w → Aimed (moved p s v w))
       → Lands b w (leaves c (goesOn a full (moved p s v w)))
-  -- "lost: 1"
+  -- §4.4: a swap that is lost
   loses :
       Swapper w
       → (expects w ≡ cell b markCell → ⊥)

@@ -1,4 +1,4 @@
--- The eight words of a bucket. Quotations are document 01's.
+-- The eight words of a bucket.
 use Prim.Native.Nat.{ℕ, _+_}
 use mathlib.Core.Bool.{Bool, _&&_, not}
 use mathlib.Core.List.{List}
@@ -6,19 +6,19 @@ use lib.Dec.{eqb}
 use lib.ListN.{length, getD}
 use Rattle.mark.specs.Word.{wellFormed}
 
--- "mark word, keys 0..2, values 0..2, one spare word": the mark word
+-- §2.3: the cell of the mark word
 abbrev pub markCell : ℕ
 markCell = 0
 
--- the key of a slot
+-- §2.3: the cell of a slot's key
 abbrev pub keyCell : ℕ → ℕ
 keyCell slot = 1 + slot
 
--- the value of a slot
+-- §2.3: the cell of a slot's value
 abbrev pub valueCell : ℕ → ℕ
 valueCell slot = 4 + slot
 
--- the spare word
+-- §2.3: the cell that is to spare
 abbrev pub spareCell : ℕ
 spareCell = 7
 
@@ -26,6 +26,6 @@ spareCell = 7
 abbrev pub cell : List ℕ → ℕ → ℕ
 cell bucket k = getD bucket k 0
 
--- "broken if a mark is over 2, byte 7 isn't 0, or the spare word isn't 0"; what is not eight words is no bucket, and broken
+-- §2.7: its mark word is not well formed, or its spare cell is not 0; what is not eight words is no bucket, and broken (decision 21)
 unfoldable pub brokenBucket : List ℕ → Bool
 brokenBucket bucket = not (eqb (length bucket) 8 && (wellFormed (cell bucket markCell) && eqb (cell bucket spareCell) 0))

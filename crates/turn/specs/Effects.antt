@@ -24,7 +24,7 @@ effectOn (commit s) m = bump (setMark m s 1)
 effectOn (free s) m = setMark m s 0
 effectOn (close s) m = setMark m s 0
 
--- a won swap is a claim, a commit or a close, by its place; one store frees, the others touch no mark
+-- §4.11: a won swap is a claim, a commit or a close, by its place; one store frees, the others touch no mark
 abbrev pub effectOf : Worker → Action → Effect
 effectOf w Read = none
 effectOf w Store = cond (eqb (w .place) freePlace) (free (w .held)) none

@@ -14,11 +14,11 @@ use Rattle.turn.specs.Worker.{isIdle, broken}
 use Rattle.turn.specs.Bucket.{brokenBucket}
 use Rattle.turn.specs.Places.{Step, turn}
 
--- 7 for a broken bucket, or 0
+-- §6.7: 7 for a broken bucket, or 0
 abbrev pub bucketRefusal : List ℕ → ℕ
 bucketRefusal b = cond (brokenBucket b) 7 0
 
--- Order of a turn: ".. 3, 6, 7": a broken record, an idle worker, a broken bucket; 0 where it is none of them
+-- §6.3, §6.6, §7.2: a broken record, an idle worker, a broken bucket; 0 where it is none of them
 unfoldable pub turnRefusal : List ℕ → Worker → ℕ
 turnRefusal b w = cond (broken w) 3 (cond (isIdle w) 6 (bucketRefusal b))
 
@@ -32,7 +32,7 @@ pub record Turned : Type 0 where
   pub worker : Worker
   pub answer : Answer
 
--- 01's number for each case of an answer: a refusal's own, and 0 for a turn that is done
+-- §14.9: the number of each case of an answer: a refusal's own, and 0 for a turn that is done
 abbrev pub numberOf : Answer → ℕ
 numberOf (Refused number) = number
 numberOf (Done report) = 0
@@ -46,7 +46,7 @@ pub record After (A : Type 0) : Type 0 where
 abbrev pub after : {A : Type 0} → List ℕ → A → After A
 after words x = record { words = words; handed = x }
 
--- "Each returns its number alone and changes nothing"
+-- §7.1: a turn that is refused answers its number, and the record is as it was
 abbrev pub refusing : ℕ → Worker → Turned
 refusing number w = record { worker = w; answer = Refused number }
 

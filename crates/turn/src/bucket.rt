@@ -1,8 +1,8 @@
-// The eight words of a bucket: mark word, keys 0..2, values 0..2, one spare word.
+// The eight words of a bucket.
 ghost use mathlib.Core.Path.{_≡_};
 ghost use Rattle.turn.specs.Bucket.{brokenBucket};
 
-// Whether the part of the board is no bucket, or one with a bad mark word or a spare word that is not 0.
+// §2.7: whether the part of the board is no bucket, or one with a bad mark word or a spare word that is not 0.
 pub fn is_broken(lent: &[u64]) -> bool
     ensures { λ r. ⌜ r ≡ brokenBucket (now (lent .entry)) ⌝ }
 {

@@ -7,7 +7,7 @@ pub mod record; // idle, started and broken records
 pub mod bucket; // broken buckets
 mod place; // the place table
 
-// What a worker is at. Idle is all 0 but held, which is 3. Widest fields first, so that there is no padding to copy around.
+// §3.2: what a worker is at. Widest fields first, so that there is no padding to copy around.
 #[repr(C)]
 pub struct Worker {
     pub key: u64,
@@ -20,7 +20,7 @@ pub struct Worker {
     pub held: u8,
 }
 
-// The one memory action of a turn; of a swap, whether it was won.
+// §4.8, §14.3: the one memory action of a turn; of a swap, whether it was won.
 pub enum Action {
     Read,
     Store,
@@ -28,12 +28,13 @@ pub enum Action {
     Lost,
 }
 
-// "the call goes on, or it ended with this answer"
+// §4.8, §14.3: where the call stands after a turn; one that has ended has its answer here.
 pub enum Progress {
     GoesOn,
     Ended(u64),
 }
 
+// §4.8, §14.3: what a turn reports.
 pub struct Report {
     pub progress: Progress,
     pub action: Action,

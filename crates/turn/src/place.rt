@@ -204,8 +204,8 @@ fn swap(bucket: &mut [u64], expected: u64, new: u64, won: Stepped, lost: Stepped
     lost
 }
 
-// "The place number alone decides what a turn does": one memory action, and what follows it. No call is at place 0 or past 13: a turn
-// there is refused before it comes here.
+// §4.1, §14.1: the place decides what a turn does, one memory action and what follows it. No call is at place 0 or past 13: a turn there is
+// refused before it comes here.
 pub fn step(bucket: &mut [u64], w: Worker) -> Stepped
     requires { ⌜ Ready (now bucket) w ⌝ }
     ensures { λ r. ⌜ leaves (now (bucket .exit)) r ≡ turn (now (bucket .entry)) w ⌝ }

@@ -37,7 +37,7 @@ pub fn remove_of(lot: u64) -> Worker
     started(REMOVE, 1, lot, 0)
 }
 
-// The one place where a record is written out.
+// §3.4: the one place where a record is written out.
 fn started(kind: u8, place: u8, lot: u64, ticket: u32) -> Worker
     ensures { λ r. ⌜ r ≡ started kind place lot ticket ⌝ }
 {
@@ -80,8 +80,7 @@ pub fn is_idle(w: Worker) -> bool
     w.seen == 0
 }
 
-// The ranges of places that each kind may use.
-
+// §3.7, §14.1: where a look may stand.
 fn look_stands(place: u8) -> bool
     ensures { λ r. ⌜ r ≡ within 2 5 place ⌝ }
 {
@@ -92,6 +91,7 @@ fn look_stands(place: u8) -> bool
     }
 }
 
+// §3.7, §14.1: where an insert may stand.
 fn insert_stands(place: u8) -> bool
     ensures { λ r. ⌜ r ≡ within 1 10 place ⌝ }
 {
@@ -102,6 +102,7 @@ fn insert_stands(place: u8) -> bool
     }
 }
 
+// §3.7, §14.1: where a remove may stand.
 fn remove_stands(place: u8) -> bool
     ensures { λ r. ⌜ r ≡ (eqb place 1 || within 11 13 place) ⌝ }
 {
@@ -114,7 +115,7 @@ fn remove_stands(place: u8) -> bool
     }
 }
 
-// An insert holds no slot when it is about to claim one, a slot from then on until it is done, and while it looks it may hold one from
+// §3.7: an insert holds no slot when it is about to claim one, a slot from then on until it is done, and while it looks it may hold one from
 // an earlier try.
 fn insert_holds(place: u8, held: u8) -> bool
     ensures { λ r. ⌜ r ≡ heldFits 2 place held ⌝ }

@@ -154,7 +154,7 @@ pub fn fields(record: &Record) -> [u64; 8] {
     ]
 }
 
-/// A body that is being read; "bytes that a body does not have read as 0".
+/// A body that is being read; past its end there are zeros.
 struct Bytes<'a> {
     body: &'a [u8],
     at: usize,

@@ -9,14 +9,14 @@ use crate::word::{Snapshot, MAP_INVLD};
 /// A number of refusal.
 pub type Refusal = u8;
 
-/// "A floor has W workers, 1 to 64, and N buckets, 1 to 256."
+/// §2.1: the ranges of W and N.
 pub const MOST_WORKERS: u64 = 64;
 pub const MOST_BUCKETS: u64 = 256;
 
-/// "A run of turns (worker numbers, at most 65,535)"
+/// §4.10: the most turns of a run.
 pub const MOST_TURNS: usize = 65_535;
 
-/// "The floor is W, N and the last ticket."
+/// §2.1.
 #[derive(Clone, Copy, Debug, PartialEq, Eq)]
 pub struct Floor {
     pub workers: u64,
@@ -104,7 +104,7 @@ impl Desk {
         Ok(desk)
     }
 
-    /// "Opening gives 1 only."
+    /// §2.10; refused by 1 only.
     pub fn open(&mut self, w: u64, n: u64, version: u32) -> Result<(), Refusal> {
         self.measure(w, n, true)?;
         let empty = Snapshot {
@@ -127,7 +127,7 @@ impl Desk {
         Ok(())
     }
 
-    /// "start 1, 2, 3, 4, 5"
+    /// §3.4; refused as §7.2 has it.
     pub fn start(&mut self, kind: u8, worker: u64, lot: u64, ticket: u32) -> Result<(), Refusal> {
         self.measure(self.floor.workers, self.floor.buckets, true)?;
         let at = self.sound_worker(worker)?;
@@ -147,7 +147,7 @@ impl Desk {
         Ok(())
     }
 
-    /// "turn 1, 2, 3, 6, 7"
+    /// §4.1; refused as §7.2 has it.
     pub fn turn(&mut self, worker: u64) -> Result<Report, Refusal> {
         self.measure(self.floor.workers, self.floor.buckets, true)?;
         let at = self.sound_worker(worker)?;
@@ -177,7 +177,7 @@ impl Desk {
         })
     }
 
-    /// "run 1, 9, then each turn"; `told` hears of each turn done, with the record before it.
+    /// §4.10; refused as §7.2 has it. `told` hears of each turn done, with the record before it.
     pub fn run(
         &mut self,
         turns: &[u8],
@@ -203,7 +203,7 @@ impl Desk {
         (0, counts)
     }
 
-    /// "show 1, 7": where the lot's bucket starts on the board, and its words.
+    /// §2.8: where the lot's bucket starts on the board, and its words.
     pub fn show(&self, lot: u64) -> Result<(usize, Vec<u64>), Refusal> {
         self.measure(self.floor.workers, self.floor.buckets, false)?;
         if self.bucket_of(lot).is_broken() {
@@ -216,7 +216,7 @@ impl Desk {
         ))
     }
 
-    /// "count 1, 7": "the number of slots, over all buckets, whose mark isn't 0".
+    /// §2.9; refused as §7.2 has it.
     pub fn count(&self) -> Result<u64, Refusal> {
         self.measure(self.floor.workers, self.floor.buckets, false)?;
         let buckets = || (0..self.floor.buckets as usize).map(|number| self.board.bucket(number));
@@ -230,7 +230,7 @@ impl Desk {
         Ok(lots as u64)
     }
 
-    /// 1: "W or N outside its range, board not 8N words, or list not W records where the call takes one".
+    /// §6.1.
     fn measure(&self, w: u64, n: u64, takes_list: bool) -> Result<(), Refusal> {
         let sized = (1..=MOST_WORKERS).contains(&w)
             && (1..=MOST_BUCKETS).contains(&n)
@@ -254,7 +254,7 @@ impl Desk {
         Ok(at)
     }
 
-    /// "A lot ... belongs to bucket lot mod N."
+    /// §2.4.
     fn bucket_of(&self, lot: u64) -> Bucket {
         self.board.bucket((lot % self.floor.buckets) as usize)
     }

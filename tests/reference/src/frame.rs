@@ -8,7 +8,7 @@ use std::ops::RangeInclusive;
 use std::pin::Pin;
 use std::task::{Context, Poll};
 
-/// "Each turn reports read, store, won or lost"
+/// §4.8: what a turn did.
 #[derive(Clone, Copy, Debug, PartialEq, Eq)]
 pub enum Action {
     Read,
@@ -22,7 +22,7 @@ pub enum Action {
 pub struct Done {
     pub actions: u32,
     pub action: Option<Action>,
-    /// "A change is a won swap or the store of place 10."
+    /// §4.9.
     pub change: bool,
     pub full_round: bool,
 }
@@ -100,7 +100,7 @@ impl Frame {
         self.empty_index.get() as u8
     }
 
-    /// "and that is one full round"
+    /// §4.7.
     pub fn note_full_round(&self) {
         let mut done = self.done.get();
         done.full_round = true;

@@ -4,7 +4,7 @@ use crate::word::{snap_set_map, Snapshot};
 use std::cell::Cell;
 use std::rc::Rc;
 
-/// Words of a bucket: mark word, keys 0..2, values 0..2, the spare word.
+/// §2.3.
 pub const BUCKET_WORDS: usize = 8;
 
 const KEYS: usize = 1;
@@ -36,7 +36,7 @@ impl Board {
         self.0[at].set(word);
     }
 
-    /// "Bucket b is words 8b to 8b+7"
+    /// §2.3: where a bucket begins.
     pub fn bucket(&self, number: usize) -> Bucket {
         Bucket {
             board: self.clone(),
@@ -90,7 +90,7 @@ impl Bucket {
         self.cell(VALUES + index as usize).set(val);
     }
 
-    /// "A bucket is broken if a mark is over 2, byte 7 isn't 0, or the spare word isn't 0."
+    /// §2.7.
     pub fn is_broken(&self) -> bool {
         !Snapshot::of(self.snapshot()).is_sound() || self.cell(SPARE).get() != 0
     }

@@ -136,7 +136,7 @@ fn push_answer(line: &mut String, answer: &Answer) {
     }
 }
 
-/// "the action (1 read, 2 store, 3 won, 4 lost ..); 1 if the call ended, else 0; its answer ..; 1 for a full round, else 0"
+/// A turn that was done, in the numbers of its line.
 fn turn_items(report: &Report) -> [u64; 4] {
     let action = match report.action {
         Action::Read => 1,

@@ -7,7 +7,7 @@ pub const LOOK: u8 = 1;
 pub const INSERT: u8 = 2;
 pub const REMOVE: u8 = 3;
 
-/// "held (0..2, or 3 for none)"
+/// §3.2: no slot is held.
 pub const NONE: u8 = 3;
 
 #[derive(Clone, Copy, Debug, PartialEq, Eq)]
@@ -23,7 +23,7 @@ pub struct Record {
 }
 
 impl Record {
-    /// "Idle means all fields 0 but held, which is 3."
+    /// §3.3.
     pub const fn idle() -> Record {
         Record {
             kind: IDLE,
@@ -41,7 +41,7 @@ impl Record {
         *self == Record::idle()
     }
 
-    /// "A record is broken unless it is idle or: ..."
+    /// §3.7.
     pub fn is_broken(&self) -> bool {
         let busy = self.place_fits()
             && self.ticket_fits()
@@ -51,7 +51,7 @@ impl Record {
         !self.is_idle() && !busy
     }
 
-    /// "look at 2..5 ...; insert at 1..10; remove at 1 or 11..13"
+    /// §3.7: the places of each kind.
     fn place_fits(&self) -> bool {
         match self.kind {
             LOOK => (2..=5).contains(&self.place),
@@ -61,12 +61,12 @@ impl Record {
         }
     }
 
-    /// "ticket at least 1 for an insert and 0 otherwise"
+    /// §3.7: only an insert has a ticket.
     fn ticket_fits(&self) -> bool {
         (self.kind == INSERT) == (self.ticket >= 1)
     }
 
-    /// "held 3 except in an insert, where it is 3 at place 6, 0..2 at 7..10, either at 1..5"
+    /// §3.7: only an insert holds a slot, and not at every place.
     fn held_fits(&self) -> bool {
         match (self.kind, self.place) {
             (INSERT, 1..=5) => self.held <= NONE,
@@ -75,7 +75,7 @@ impl Record {
         }
     }
 
-    /// "word's marks at most 2 and its byte 7 zero", and for a look "word 0"
+    /// §3.7: a look has no word.
     fn word_fits(&self) -> bool {
         Snapshot::of(self.word).is_sound() && (self.kind != LOOK || self.word == 0)
     }

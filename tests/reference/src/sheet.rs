@@ -4,7 +4,7 @@ use crate::desk::{Counts, Desk, Manner, Refusal};
 use crate::record::{INSERT, LOOK, REMOVE};
 use std::fmt::Write;
 
-/// "sheet over 16,384 bytes"
+/// §6.9: the most bytes of a sheet.
 pub const MOST_BYTES: usize = 16_384;
 
 /// Bytes of a field's tag and length.
@@ -88,7 +88,7 @@ fn play(manner: Manner, sheet: &[u8], listing: &mut String) -> Result<Counts, (R
             (Field::Turns(turns), Some(desk)) => {
                 run(desk, turns, &mut totals, listing).map_err(refused)?
             }
-            // "a first field that isn't the floor, or a later floor is 8"
+            // §8.5: the floor comes first, and only first
             _ => return Err(refused(8)),
         }
         at = after;
@@ -111,7 +111,7 @@ fn read_field(sheet: &[u8], at: usize) -> Option<(Field<'_>, usize)> {
     Some((field, after))
 }
 
-/// "Tag 1, floor, 7 bytes: W (1), N (2), version (4)"
+/// §8.2.
 fn read_floor(value: &[u8]) -> Option<Field<'_>> {
     let &[workers, n1, n0, v3, v2, v1, v0] = value else {
         return None;
@@ -123,7 +123,7 @@ fn read_floor(value: &[u8]) -> Option<Field<'_>> {
     })
 }
 
-/// "Tag 2, call: worker (1), kind 1..3 (1), lot (8), and for an insert ticket (4), so 10 or 14 bytes."
+/// §8.3.
 fn read_call(value: &[u8]) -> Option<Field<'_>> {
     let (&[worker, kind], rest) = value.split_first_chunk::<2>()?;
     let (&lot, rest) = rest.split_first_chunk::<8>()?;

@@ -3,7 +3,7 @@
 /// Slots of a bucket (the report's `ENTRIES_PER_BUCKET` and `KEY_BUCKT`).
 pub const KEY_BUCKT: u8 = 3;
 
-/// "Marks: 0 empty, 1 valid, 2 being inserted."
+/// §2.6, by the names of the report.
 pub const MAP_INVLD: u8 = 0;
 pub const MAP_VALID: u8 = 1;
 pub const MAP_INSRT: u8 = 2;
@@ -34,7 +34,7 @@ impl Snapshot {
         u64::from_le_bytes([v0, v1, v2, v3, m0, m1, m2, self.byte_7])
     }
 
-    /// "word's marks at most 2 and its byte 7 zero"
+    /// §3.7: the marks are known ones, and byte 7 is zero.
     pub fn is_sound(self) -> bool {
         self.map.iter().all(|&mark| mark <= MAP_INSRT) && self.byte_7 == 0
     }

@@ -1,11 +1,11 @@
-//! The trials at the rostrum, with the document's own numbers, on code that lives and on code made anew from the records.
+//! The trials (§10) with their numbers, on code that lives and on code made anew from the records.
 
 use reference::desk::{Counts, Desk, Floor, List, Manner, Report};
 use reference::frame::Action;
 use reference::record::{Record, INSERT, LOOK, REMOVE};
 use reference::sheet::listing;
 
-/// "Version 0, N 1, unless said."
+/// One bucket, version 0.
 fn on_both(workers: u64, version: u32, trial: impl Fn(Desk)) {
     for manner in [Manner::Living, Manner::Remade] {
         trial(Desk::opened(workers, 1, version, manner).unwrap());

@@ -218,7 +218,7 @@ fn everything_at_once(bodies: &mut Bodies) {
     bodies.push(case);
 }
 
-/// "Insert stopped after 8 turns: mark word 8,589,934,592; another's look answers 0 in 6."
+/// §10.12: an insert that is stopped, and a look beside it.
 fn trials(bodies: &mut Bodies) {
     let mut case = bodies.random.sound_sized(RUN, 2, 1);
     case.floor.last_ticket = 1;

@@ -114,7 +114,7 @@ fn causes_in_word(record: &Record, kind: &str) -> Vec<String> {
         .collect()
 }
 
-/// "a mark is over 2, byte 7 isn't 0"
+/// §2.7, of the mark word.
 fn causes_in_mark_word(word: Snapshot) -> Vec<String> {
     let mut causes = Vec::new();
     for (slot, mark) in word.map.iter().enumerate() {
@@ -197,7 +197,7 @@ fn see_what_does_not_matter(case: &Case, met: &mut Vec<String>) {
     }
 }
 
-/// "Every bucket gets that version, empty marks and zeros; every worker becomes idle", whatever was there.
+/// §2.10, whatever was there.
 fn see_opening(case: &Case, any_bucket: bool, met: &mut Vec<String>) {
     for (worker, record) in case.list.records.iter().enumerate() {
         let was = match (record.is_broken(), record.is_idle()) {

@@ -72,7 +72,7 @@ fn see_lot(case: &Case, n: u64, met: &mut Vec<String>) {
     }
 }
 
-/// "list not W records where the call takes one (show and count don't ...)"
+/// §6.1: calls that are given a list.
 fn see_list(case: &Case, name: &str, met: &mut Vec<String>) {
     let (length, w) = (case.list.length, case.floor.workers);
     if length != w {
@@ -204,7 +204,7 @@ fn see_workers(case: &Case, outcome: &Outcome, met: &mut Vec<String>) {
     }
 }
 
-/// "Insert stopped after 8 turns: mark word 8,589,934,592; another's look answers 0 in 6."
+/// §10.12.
 fn see_trials(case: &Case, outcome: &Outcome, number: u8, met: &mut Vec<String>) {
     let told = &outcome.told;
     let (Some((_, first, _)), Some((_, _, last)), 0) = (told.first(), told.last(), number) else {
