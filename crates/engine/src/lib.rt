@@ -88,7 +88,7 @@ pub fn blank() -> Worker
     }
 }
 
-// Opens a floor on a lent board of eight words a bucket, for a list of as many records as there are workers; whoever has the list
+// §2.10: opens a floor on a lent board of eight words a bucket, for a list of as many records as there are workers; whoever has the list
 // makes its records idle.
 pub fn open_floor(board: &mut [u64], floor: Floor, listed: usize, plan: Plan) -> Laid
     ensures { λ r. ⌜ FloorLaid (now (board .entry)) floor listed plan (now (board .exit)) r ⌝ }
@@ -113,6 +113,7 @@ pub fn open_floor(board: &mut [u64], floor: Floor, listed: usize, plan: Plan) ->
     }
 }
 
+// §3.4: starts a look.
 pub fn start_look(board: &[u64], seat: Seat, w: Worker, lot: u64) -> Started
     ensures { λ r. ⌜ StartDone lookCall (now (board .entry)) seat w lot r ⌝ }
 {
@@ -121,6 +122,7 @@ pub fn start_look(board: &[u64], seat: Seat, w: Worker, lot: u64) -> Started
     start(refusal, floor, w, record::look_for(lot), floor)
 }
 
+// §3.4, §3.5: starts an insert, whose ticket is the last from then on.
 pub fn start_insert(board: &[u64], seat: Seat, w: Worker, bid: Bid) -> Started
     ensures { λ r. ⌜ StartDone insertCall (now (board .entry)) seat w bid r ⌝ }
 {
@@ -138,6 +140,7 @@ pub fn start_insert(board: &[u64], seat: Seat, w: Worker, bid: Bid) -> Started
     )
 }
 
+// §3.4: starts a remove.
 pub fn start_remove(board: &[u64], seat: Seat, w: Worker, lot: u64) -> Started
     ensures { λ r. ⌜ StartDone removeCall (now (board .entry)) seat w lot r ⌝ }
 {
@@ -146,7 +149,7 @@ pub fn start_remove(board: &[u64], seat: Seat, w: Worker, lot: u64) -> Started
     start(refusal, floor, w, record::remove_of(lot), floor)
 }
 
-// On its own, and of board and list by their lengths: what is left of a start is small enough to be built into its callers.
+// §7.2: on its own, and of board and list by their lengths: what is left of a start is small enough to be built into its callers.
 fn start_refusal(
     floor: Floor,
     words: usize,
@@ -166,7 +169,7 @@ fn start_refusal(
     record_refusal(w, late)
 }
 
-// An idle record is the one that a start is for, so that it is tested first.
+// §6.3, §6.4: an idle record is the one that a start is for, so that it is tested first.
 fn record_refusal(w: Worker, late: bool) -> u8
     ensures { λ r. ⌜ r ≡ recordNumber w late ⌝ }
 {
@@ -179,6 +182,7 @@ fn record_refusal(w: Worker, late: bool) -> u8
     refusal::BROKEN_RECORD
 }
 
+// §6.5: 5 for a ticket that is spent, or 0.
 fn ticket_refusal(late: bool) -> u8
     ensures { λ r. ⌜ r ≡ cond late 5 0 ⌝ }
 {
@@ -188,7 +192,7 @@ fn ticket_refusal(late: bool) -> u8
     0
 }
 
-// A start with this number of refusal, or 0: the record becomes `new` and the floor `after`, or both stay.
+// §7.1: a start with this number of refusal, or 0: the record becomes `new` and the floor `after`, or both stay.
 fn start(refusal: u8, floor: Floor, w: Worker, new: Worker, after: Floor) -> Started
     ensures { λ r. ⌜ r ≡ startMade refusal floor w new after ⌝ }
 {
@@ -206,7 +210,7 @@ fn start(refusal: u8, floor: Floor, w: Worker, new: Worker, after: Floor) -> Sta
     }
 }
 
-// One turn of one worker, given its record.
+// §4.1, §7.2: one turn of one worker, given its record.
 pub fn try_turn(board: &mut [u64], seat: Seat, w: Worker) -> Tried
     ensures { λ r. ⌜ TurnTried (now (board .entry)) seat w (now (board .exit)) r ⌝ }
 {
@@ -220,7 +224,7 @@ pub fn try_turn(board: &mut [u64], seat: Seat, w: Worker) -> Tried
     take::turn(board, floor, w)
 }
 
-// The number that refuses a run as a whole, or 0: of a board of so many words, a list of so many records, and so many turns.
+// §7.2: the number that refuses a run as a whole, or 0: of a board of so many words, a list of so many records, and so many turns.
 pub fn run_refusal(floor: Floor, words: usize, listed: usize, count: usize) -> u8
     ensures { λ r. ⌜ RunTested floor words listed count r ⌝ }
 {
@@ -244,7 +248,7 @@ pub fn show(board: &[u64], floor: Floor, lot: u64) -> &[u64]
     &board[0..0]
 }
 
-// Where that part starts on the board, in words; 0 where the show is refused.
+// §2.8: where that part starts on the board, in words; 0 where the show is refused.
 pub fn show_start(board: &[u64], floor: Floor, lot: u64) -> usize
     ensures { λ r. ⌜ ShowPlaced (now (board .entry)) floor lot r ⌝ }
 {

@@ -13,7 +13,7 @@ use crate::Floor;
 use turn::bucket;
 use turn::refusal;
 
-// Where the bucket of a lot starts: eight times the bucket number.
+// §2.3, §2.4: where the bucket of a lot starts.
 pub fn first_word(lot: u64, buckets: usize) -> usize
     requires { ⌜ (1 ≤ buckets) × (buckets ≤ 256) ⌝ }
     ensures { λ r. ⌜ (r ≡ 8 * bucketOf lot buckets) × (r + 8 ≤ 8 * buckets) ⌝ }
@@ -22,7 +22,7 @@ pub fn first_word(lot: u64, buckets: usize) -> usize
     8 * (b as usize)
 }
 
-// Whether the bucket of a lot is broken.
+// §6.7: whether a lot has a broken bucket.
 pub fn is_broken(board: &[u64], floor: Floor, lot: u64) -> bool
     requires { ⌜ Right floor (now board) ⌝ }
     ensures { λ r. ⌜ r ≡ brokenBucket (bucketFor floor (now (board .entry)) lot) ⌝ }
@@ -31,6 +31,7 @@ pub fn is_broken(board: &[u64], floor: Floor, lot: u64) -> bool
     bucket::is_broken(&board[at..at + 8])
 }
 
+// §2.9: whether a slot counts.
 fn is_taken(mark: u8) -> usize
     ensures { λ r. ⌜ (r ≡ taken mark) × (r ≤ 1) ⌝ }
 {
@@ -40,6 +41,7 @@ fn is_taken(mark: u8) -> usize
     1
 }
 
+// §2.9: how many of a bucket do.
 fn in_word(word: u64) -> usize
     ensures { λ r. ⌜ (r ≡ sumMarks taken word) × (r ≤ 3) ⌝ }
 {
@@ -49,7 +51,7 @@ fn in_word(word: u64) -> usize
     first + second + third
 }
 
-// Counts bucket by bucket, and stops at the first that is broken.
+// §2.9, §6.7: counts bucket by bucket, and stops at the first that is broken.
 pub fn count(board: &[u64], buckets: usize) -> Counted
     requires { ⌜ (buckets ≤ 256) × (length (now board) ≡ 8 * buckets) ⌝ }
     ensures { λ r. ⌜ r ≡ cond (anyBroken (now (board .entry)) buckets) (Counted.Refusal 7) (Counted.Lots (lotsOn (now (board .entry)) buckets)) ⌝ }

@@ -9,7 +9,7 @@ use crate::lots;
 use turn::Tried;
 use turn::Worker;
 
-// The worker's turn on the bucket of its lot.
+// §2.4, §4.1: the worker's turn on the bucket of its lot.
 pub fn turn(board: &mut [u64], floor: Floor, w: Worker) -> Tried
     requires { ⌜ Right floor (now board) ⌝ }
     ensures { λ r. ⌜ after (now (board .exit)) r ≡ tried (turnRefusal (bucketFor floor (now (board .entry)) (w .key)) w) floor (now (board .entry)) w ⌝ }

@@ -8,6 +8,7 @@ use crate::Totals;
 use turn::Action;
 use turn::Report;
 
+// §4.10: no turn is counted yet.
 pub fn nothing() -> Totals
     ensures { λ r. ⌜ NoneCounted r ⌝ }
 {
@@ -19,6 +20,7 @@ pub fn nothing() -> Totals
     }
 }
 
+// §4.9: 1 for a change, else 0.
 fn changes(place: u8, action: Action) -> u32
     ensures { λ r. ⌜ r ≡ changes place action ⌝ }
 {
@@ -40,6 +42,7 @@ fn freed(place: u8) -> u32
     0
 }
 
+// 1 for a lost swap, else 0.
 fn losses(action: Action) -> u32
     ensures { λ r. ⌜ r ≡ losses action ⌝ }
 {
@@ -51,6 +54,7 @@ fn losses(action: Action) -> u32
     }
 }
 
+// 1 for a full round, else 0.
 fn rounds(full: bool) -> u32
     ensures { λ r. ⌜ r ≡ cond full 1 0 ⌝ }
 {
@@ -70,7 +74,7 @@ fn more(count: u32, some: u32) -> u32
     u32::MAX
 }
 
-// The totals with one turn more, done at a place.
+// §4.10: the totals with one turn more, done at a place.
 pub fn add(totals: Totals, place: u8, report: Report) -> Totals
     ensures { λ r. ⌜ TurnCounted totals place report r ⌝ }
 {

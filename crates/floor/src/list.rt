@@ -45,7 +45,7 @@ fn least(count: usize, listed: usize) -> usize
     listed
 }
 
-// Makes so many records idle, as far as the list goes: with an end within the list no lap tests it again.
+// §2.10: makes so many records idle, as far as the list goes: with an end within the list no lap tests it again.
 pub fn make_idle(records: &mut [Worker], count: usize)
     ensures { λ _. ⌜ now (records .exit) ≡ idled count (now (records .entry)) ⌝ }
 {

@@ -17,7 +17,7 @@ pub struct Running {
     pub stop: u8,
 }
 
-// Before its first turn, or at its end where it is refused as a whole: by the words of the board, the records of the list, the turns.
+// §4.10: before its first turn, or at its end where it is refused as a whole: by the words of the board, the records of the list, the turns.
 pub fn begin(floor: Floor, words: usize, listed: usize, turns: usize) -> Running
     ensures { λ r. ⌜ r ≡ begun floor words listed turns ⌝ }
 {
@@ -58,7 +58,7 @@ fn next(at: usize, end: usize) -> usize
     end
 }
 
-// After a turn: the next one, or the end where this one was refused.
+// §4.10: after a turn: the next one, or the end where this one was refused.
 pub fn go_on(run: Running, said: Said) -> Running
     ensures { λ r. ⌜ r ≡ goneOn run said ⌝ }
 {

@@ -15,7 +15,7 @@ fn put(out: &mut [u8], at: usize, byte: u8) -> usize
     at + 1
 }
 
-// A number in decimal, in at most so many places.
+// §9.4: a number in decimal, in at most so many places.
 fn digits(out: &mut [u8], at: usize, n: u64, places: usize) -> usize
     requires { ⌜ (1 ≤ places) × (places ≤ 20) × (n < 10 ^ places) × (at + places ≤ length (now out)) ⌝ }
     ensures { λ r. ⌜ Wrote (now (out .entry)) at (decimal n) (now (out .exit)) r × (r ≤ at + places) ⌝ }

@@ -29,7 +29,7 @@ fn seat_of(floor: Floor, worker: u8) -> Seat
     }
 }
 
-// The start that a call asks for, given its worker's record.
+// §8.3: the start that a call asks for, given its worker's record.
 pub fn start(board: &[u64], floor: Floor, w: Worker, call: Call) -> Started
     ensures { λ r. ⌜ r ≡ asked (now (board .entry)) (seatAt floor (call .worker)) w call ⌝ }
 {
@@ -47,7 +47,7 @@ pub fn start(board: &[u64], floor: Floor, w: Worker, call: Call) -> Started
     engine::start_remove(board, seat, w, call.lot)
 }
 
-// The line of a call that ends, and nothing of one that goes on.
+// §9.1: the line of a call that ends, and nothing of one that goes on.
 fn told(out: &mut [u8], at: usize, turn: u32, worker: u8, kind: u8, progress: Progress) -> usize
     requires { ⌜ (turn ≤ 16384) × (at + 37 ≤ length (now out)) ⌝ }
     ensures { λ r. ⌜ Wrote (now (out .entry)) at (endedLine turn worker kind progress) (now (out .exit)) r × (r ≤ at + endedRoom progress) ⌝ }
@@ -58,7 +58,7 @@ fn told(out: &mut [u8], at: usize, turn: u32, worker: u8, kind: u8, progress: Pr
     }
 }
 
-// One turn of a worker, given its record.
+// §8.4, §9.1: one turn of a worker, given its record.
 pub fn turn(
     board: &mut [u64],
     floor: Floor,

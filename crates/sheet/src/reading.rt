@@ -62,7 +62,7 @@ fn call_fits(kind: u8, length: usize) -> bool
     }
 }
 
-// An insert's ticket; another call has none.
+// §8.3: an insert's ticket; another call has none.
 fn ticket(sheet: &[u8], at: usize, kind: u8, length: usize) -> u32
     requires { ⌜ Value (now sheet) at length × (callFits kind length ≡ true) ⌝ }
     ensures { λ r. ⌜ r ≡ ticketAt (now (sheet .entry)) at kind ⌝ }

@@ -59,7 +59,7 @@ pub struct Tried {
     pub said: Said,
 }
 
-// The number of refusal, or 0. A sound record is not idle, so the test that nearly every turn passes comes first.
+// §7.2: the number of refusal, or 0. A sound record is not idle, so the test that nearly every turn passes comes first.
 fn turn_refusal(lent: &[u64], w: Worker) -> u8
     ensures { λ r. ⌜ r ≡ turnRefusal (now (lent .entry)) w ⌝ }
 {
@@ -72,6 +72,7 @@ fn turn_refusal(lent: &[u64], w: Worker) -> u8
     refusal::BROKEN_RECORD
 }
 
+// §6.7: 7 for a broken bucket, or 0.
 fn bucket_refusal(lent: &[u64]) -> u8
     ensures { λ r. ⌜ r ≡ bucketRefusal (now (lent .entry)) ⌝ }
 {
@@ -81,7 +82,7 @@ fn bucket_refusal(lent: &[u64]) -> u8
     0
 }
 
-// A turn that is refused: it leaves the record, and reports nothing.
+// §7.1: a turn that is refused: it leaves the record, and reports nothing.
 pub fn refused(number: u8, w: Worker) -> Tried
     ensures { λ r. ⌜ r ≡ refused number w ⌝ }
 {
@@ -114,7 +115,7 @@ fn done(stepped: Stepped, place: u8) -> Tried
     }
 }
 
-// One turn of a worker on the bucket of its lot.
+// §4.1: one turn of a worker on the bucket of its lot.
 pub fn try_turn(lent: &mut [u64], w: Worker) -> Tried
     ensures { λ r. ⌜ after (now (lent .exit)) r ≡ tryTurn (now (lent .entry)) w ⌝ }
 {

@@ -13,6 +13,7 @@ use crate::Stepped;
 use crate::Worker;
 use crate::record;
 
+// §4.8: the call goes on.
 fn goes_on(action: Action, full: bool, worker: Worker) -> Stepped
     ensures { λ r. ⌜ r ≡ goesOn action full worker ⌝ }
 {
@@ -26,6 +27,7 @@ fn goes_on(action: Action, full: bool, worker: Worker) -> Stepped
     }
 }
 
+// §4.3, §4.8: the call has ended.
 fn ends(action: Action, answer: u64) -> Stepped
     ensures { λ r. ⌜ r ≡ ends action answer ⌝ }
 {
@@ -64,6 +66,7 @@ fn read_seen(mut w: Worker, place: u8, seen: u64) -> Stepped
     goes_on(Action::Read, false, w)
 }
 
+// §4.6: the search has found.
 fn look_found(w: Worker) -> Stepped
     ensures { λ r. ⌜ r ≡ lookFound w ⌝ }
 {
@@ -76,6 +79,7 @@ fn look_found(w: Worker) -> Stepped
     read_to(w, 10)
 }
 
+// §4.7: a slot to claim, or a full round.
 fn find_slot(w: Worker) -> Stepped
     ensures { λ r. ⌜ r ≡ findSlot w ⌝ }
 {
@@ -86,6 +90,7 @@ fn find_slot(w: Worker) -> Stepped
     read_to_slot(w, 1, 0, true)
 }
 
+// §4.7: the search is empty.
 fn look_empty(w: Worker) -> Stepped
     ensures { λ r. ⌜ r ≡ lookEmpty w ⌝ }
 {
@@ -98,6 +103,7 @@ fn look_empty(w: Worker) -> Stepped
     read_to(w, 9)
 }
 
+// §4.5: to the next slot.
 fn next_slot(w: Worker) -> Stepped
     ensures { λ r. ⌜ r ≡ nextSlot w ⌝ }
 {
@@ -107,6 +113,7 @@ fn next_slot(w: Worker) -> Stepped
     look_empty(w)
 }
 
+// §5.1: what follows the reading of the whole word.
 fn after_1(mut w: Worker, read: u64) -> Stepped
     ensures { λ r. ⌜ r ≡ after1 w read ⌝ }
 {
@@ -118,6 +125,7 @@ fn after_1(mut w: Worker, read: u64) -> Stepped
     read_to(w, 2)
 }
 
+// §5.3: what follows the reading of a mark.
 fn after_3(w: Worker, read: u64) -> Stepped
     ensures { λ r. ⌜ r ≡ after3 w read ⌝ }
 {
@@ -127,6 +135,7 @@ fn after_3(w: Worker, read: u64) -> Stepped
     next_slot(w)
 }
 
+// §5.4: what follows the reading of a key.
 fn after_4(w: Worker, read: u64) -> Stepped
     ensures { λ r. ⌜ r ≡ after4 w read ⌝ }
 {
@@ -136,6 +145,7 @@ fn after_4(w: Worker, read: u64) -> Stepped
     next_slot(w)
 }
 
+// §5.5: what follows the second reading of a value.
 fn after_5(w: Worker, read: u64) -> Stepped
     ensures { λ r. ⌜ r ≡ after5 w read ⌝ }
 {
@@ -148,6 +158,7 @@ fn after_5(w: Worker, read: u64) -> Stepped
     look_found(w)
 }
 
+// §5.11: to the next key.
 fn next_key(w: Worker) -> Stepped
     ensures { λ r. ⌜ r ≡ nextKey w ⌝ }
 {
@@ -157,6 +168,7 @@ fn next_key(w: Worker) -> Stepped
     ends(Action::Read, 0)
 }
 
+// §5.11: what follows the reading of a remove's key.
 fn after_11(w: Worker, read: u64) -> Stepped
     ensures { λ r. ⌜ r ≡ after11 w read ⌝ }
 {
@@ -169,6 +181,7 @@ fn after_11(w: Worker, read: u64) -> Stepped
     next_key(w)
 }
 
+// §5.7, §5.8: what follows a store of an insert that goes on.
 fn stored(mut w: Worker, place: u8) -> Stepped
     ensures { λ r. ⌜ r ≡ goesOn Action.Store false (goTo place w) ⌝ }
 {
@@ -176,6 +189,7 @@ fn stored(mut w: Worker, place: u8) -> Stepped
     goes_on(Action::Store, false, w)
 }
 
+// §5.6: what follows a claim.
 fn claimed(mut w: Worker, word: u64) -> Stepped
     ensures { λ r. ⌜ r ≡ goesOn Action.Won false (claimed word w) ⌝ }
 {
@@ -185,6 +199,7 @@ fn claimed(mut w: Worker, word: u64) -> Stepped
     goes_on(Action::Won, false, w)
 }
 
+// §4.4: what follows a lost swap.
 fn lost(mut w: Worker) -> Stepped
     ensures { λ r. ⌜ r ≡ loses w ⌝ }
 {
@@ -192,7 +207,7 @@ fn lost(mut w: Worker) -> Stepped
     goes_on(Action::Lost, false, w)
 }
 
-// The mark word `new` for `expected`, and what follows a swap that is won or lost.
+// §4.4: the mark word `new` for `expected`, and what follows a swap that is won or lost.
 fn swap(bucket: &mut [u64], expected: u64, new: u64, won: Stepped, lost: Stepped) -> Stepped
     requires { ⌜ 0 < length (now bucket) ⌝ }
     ensures { λ r. ⌜ leaves (now (bucket .exit)) r ≡ swapped (now (bucket .entry)) expected new won lost ⌝ }

@@ -13,24 +13,28 @@ pub const INSERT: u8 = 2;
 
 pub const REMOVE: u8 = 3;
 
+// §3.3: the record of an idle worker.
 pub fn idle() -> Worker
     ensures { λ r. ⌜ r ≡ idle ⌝ }
 {
     started(IDLE, 0, 0, 0)
 }
 
+// §3.4: the record of a look that starts.
 pub fn look_for(lot: u64) -> Worker
     ensures { λ r. ⌜ r ≡ lookFor lot ⌝ }
 {
     started(LOOK, 2, lot, 0)
 }
 
+// §3.4: of an insert.
 pub fn insert_of(lot: u64, ticket: u32) -> Worker
     ensures { λ r. ⌜ r ≡ insertOf lot ticket ⌝ }
 {
     started(INSERT, 1, lot, ticket)
 }
 
+// §3.4: of a remove.
 pub fn remove_of(lot: u64) -> Worker
     ensures { λ r. ⌜ r ≡ removeOf lot ⌝ }
 {
@@ -53,6 +57,7 @@ fn started(kind: u8, place: u8, lot: u64, ticket: u32) -> Worker
     }
 }
 
+// §3.3: whether a worker is idle.
 pub fn is_idle(w: Worker) -> bool
     ensures { λ r. ⌜ r ≡ isIdle w ⌝ }
 {
@@ -129,8 +134,7 @@ fn insert_holds(place: u8, held: u8) -> bool
     held <= mark::NO_SLOT
 }
 
-// What each kind asks of a busy record, beside its slot.
-
+// §3.7: what a look asks of a busy record, beside its slot.
 fn look_fits(place: u8, ticket: u32, held: u8, word: u64) -> bool
     ensures { λ r. ⌜ r ≡ fits 1 place ticket held word ⌝ }
 {
@@ -146,6 +150,7 @@ fn look_fits(place: u8, ticket: u32, held: u8, word: u64) -> bool
     word == 0
 }
 
+// §3.7: what an insert asks.
 fn insert_fits(place: u8, ticket: u32, held: u8, word: u64) -> bool
     ensures { λ r. ⌜ r ≡ fits 2 place ticket held word ⌝ }
 {
@@ -161,6 +166,7 @@ fn insert_fits(place: u8, ticket: u32, held: u8, word: u64) -> bool
     mark::is_well_formed(word)
 }
 
+// §3.7: what a remove asks.
 fn remove_fits(place: u8, ticket: u32, held: u8, word: u64) -> bool
     ensures { λ r. ⌜ r ≡ fits 3 place ticket held word ⌝ }
 {
@@ -176,7 +182,7 @@ fn remove_fits(place: u8, ticket: u32, held: u8, word: u64) -> bool
     mark::is_well_formed(word)
 }
 
-// Whether the fields of a busy record go together: by its kind, so that each is tested once.
+// §3.7: whether the fields of a busy record go together: by its kind, so that each is tested once.
 pub fn is_sound(w: Worker) -> bool
     ensures { λ r. ⌜ r ≡ sound w ⌝ }
 {
