@@ -6,8 +6,8 @@
 
    What is asked of the caller: a pointer has as many words, records or turns behind it as the number after it says, and what a function
    may write to overlaps nothing else that it is given. Where that number is 0 the pointer may be NULL: an empty run is
-   desk_run(board, words, records, listed, floor, NULL, 0). All else may be anything. Every function takes any words, any records and any
-   numbers, and ends; what does not fit it refuses by a number, and then nothing has changed.
+   desk_run(board, words, records, listed, floor, NULL, 0). All else may be anything: whatever the words, the records and the numbers are,
+   every function comes to its end; what does not fit it refuses by a number, and then nothing has changed.
 
    Threads: the library keeps nothing between two calls and asks the system for nothing. So each thread can have a board, a list and a
    floor of its own and use them while others use theirs; one board with its list belongs to one thread at a time. Workers are no threads:

@@ -184,7 +184,7 @@ static void test_readers(void) {
     CHECK(c.refusal == DESK_DONE && c.lots == 3);
 }
 
-/* three valid lots, and an insert of a fourth: its tenth turn is a full round, and it begins again */
+/* a fourth lot finds no slot: its tenth turn is a full round, and it begins again */
 static void test_full_round(void) {
     opened(&one, 1, 1, 0);
     for (uint32_t ticket = 1; ticket <= 3; ticket++) {

@@ -1,4 +1,4 @@
--- §7.1, §11.1: a refused call changes nothing: it hands back its number with everything as it came. Assumes nothing.
+-- §7.1, §11.1: what is refused leaves all as it was: the call hands back its number with everything as it came. Assumes nothing.
 use Prim.Native.Nat.{ℕ}
 use mathlib.Core.Bool.{Bool, cond}
 use mathlib.Core.Path.{_≡_}

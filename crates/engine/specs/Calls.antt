@@ -112,7 +112,7 @@ changes place Store = cond (eqb place freePlace) 1 0
 changes place Won = 1
 changes place Lost = 0
 
--- 1 for a lost swap, else 0
+-- §4.10: 1 for a lost swap, else 0
 abbrev pub losses : Action → ℕ
 losses Read = 0
 losses Store = 0

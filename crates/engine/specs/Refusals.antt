@@ -75,7 +75,7 @@ runRefusal f words listed count = cond (wrongListed f words listed) 1 (tooLong c
 unfoldable pub runNumber : Floor → List ℕ → ℕ → List ℕ → ℕ
 runNumber f board listed turns = runRefusal f (length board) listed (length turns)
 
--- §7.2: of a show
+-- §2.8, §6.7, §7.2: of a show
 unfoldable pub showNumber : Floor → List ℕ → ℕ → ℕ
 showNumber f board lot = cond (wrongFloor f board) 1 (cond (brokenBucket (bucketFor f board lot)) 7 0)
 

@@ -52,6 +52,7 @@ pub struct Laid {
     pub refusal: u8,
 }
 
+// What a start hands back: the record and the floor as they now stand, and the number of refusal, or 0.
 pub struct Started {
     pub worker: Worker,
     pub floor: Floor,
@@ -67,6 +68,7 @@ pub struct Totals {
     pub full: u32,
 }
 
+// §2.9, §14.9: what a count answers.
 pub enum Counted {
     Refusal(u8),
     Lots(usize),
@@ -237,7 +239,7 @@ pub fn run_refusal(floor: Floor, words: usize, listed: usize, count: usize) -> u
     0
 }
 
-// §2.8, §14.4: the bucket of a lot, as that part of the lent board; an empty part where the show is refused.
+// §2.8, §14.4: where a lot's bucket stands on the board that was lent; an empty part where the show is refused.
 pub fn show(board: &[u64], floor: Floor, lot: u64) -> &[u64]
     ensures { λ r. ⌜ Shown (board .entry) floor lot r ⌝ }
 {

@@ -32,12 +32,14 @@ pub fn words_are_wrong(floor: Floor, words: usize, listed: usize) -> bool
     listed != floor.workers
 }
 
+// §6.1: the same of a board.
 pub fn is_wrong(board: &[u64], floor: Floor) -> bool
     ensures { λ r. ⌜ r ≡ wrongFloor floor (now (board .entry)) ⌝ }
 {
     has_wrong_words(floor, board.len())
 }
 
+// §6.1: the same of a board and a list.
 pub fn are_wrong(board: &[u64], floor: Floor, listed: usize) -> bool
     ensures { λ r. ⌜ r ≡ wrongSizes floor (now (board .entry)) listed ⌝ }
 {

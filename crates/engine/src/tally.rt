@@ -42,7 +42,7 @@ fn freed(place: u8) -> u32
     0
 }
 
-// 1 for a lost swap, else 0.
+// §4.10: 1 for a lost swap, else 0.
 fn losses(action: Action) -> u32
     ensures { λ r. ⌜ r ≡ losses action ⌝ }
 {
@@ -54,7 +54,7 @@ fn losses(action: Action) -> u32
     }
 }
 
-// 1 for a full round, else 0.
+// §4.10: 1 for a full round, else 0.
 fn rounds(full: bool) -> u32
     ensures { λ r. ⌜ r ≡ cond full 1 0 ⌝ }
 {

@@ -187,7 +187,7 @@ pub extern "C" fn desk_run(
     told::run(run)
 }
 
-// §1.1, §14.4: the bucket of a lot, as that part of the lent board; an empty part where the show is refused.
+// §1.1, §14.4: where a lot's bucket stands on the board that was lent; an empty part where the show is refused.
 pub fn show(board: &[u64], floor: Floor, lot: u64) -> &[u64]
     ensures { λ r. ⌜ Shown (board .entry) floor lot r ⌝ }
 {

@@ -20,6 +20,7 @@ const WON: u8 = 3;
 
 const LOST: u8 = 4;
 
+// §14.9: the number of an action.
 fn action(a: Action) -> u8
     ensures { λ r. ⌜ r ≡ actionNumber a ⌝ }
 {
@@ -31,6 +32,7 @@ fn action(a: Action) -> u8
     }
 }
 
+// §14.9: whether a call has ended.
 fn is_ended(p: Progress) -> bool
     ensures { λ r. ⌜ r ≡ isEnded p ⌝ }
 {
@@ -40,6 +42,7 @@ fn is_ended(p: Progress) -> bool
     }
 }
 
+// §14.9: with which answer; 0 where it goes on.
 fn ended_with(p: Progress) -> u64
     ensures { λ r. ⌜ r ≡ endedWith p ⌝ }
 {

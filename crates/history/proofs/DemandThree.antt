@@ -59,7 +59,7 @@ module _ (o : Opening) (calls : List Call) where
       let paid = mul-le-mul-left {m = changes} {n = allowed} (workersOf o - 1) (omega (arith, good .budget)) in
       omega (arith, good .charge, lost, paid)
 
-  -- demand 3
+  -- §11.3: demand 3
   pub demand-three : DemandThree o calls
   demand-three = record { moment = the-moment-exists; loses = a-swap-loses-only-if; wins = a-swap-wins-only-if; bound = lost-swaps-bound }
 
@@ -81,14 +81,14 @@ module _ (o : Opening) (calls : List Call) where
           is = has .holds .0;
         }
 
-    -- a lost swap has a moment, and after it another worker changed that mark word
+    -- a lost swap has a moment, and from there to the swap another worker changed that mark word
     pub every-lost-swap :
         Loses (at .turn) → (has : HasMoment (at .before) (at .turn)) × Some (ChangedByAnother (at .turn)) (has .newer)
     every-lost-swap lost =
         let has = demand-three .moment at (inr lost) in
         (has, demand-three .loses (at-moment has) lost)
 
-    -- a won swap has a moment, and after it no other worker committed or closed there
+    -- a won swap has a moment, and from there to the swap no other worker committed or closed in that bucket
     pub every-won-swap :
         Wins (at .turn) → (has : HasMoment (at .before) (at .turn)) × None (CommittedOrClosedByAnother (at .turn)) (has .newer)
     every-won-swap won =

@@ -24,7 +24,7 @@ pub record Good (workers n version : ℕ) (s : View) (past : List Entry) (k : �
   pub listed : length (s .records) ≡ workers
   pub kept : Kept n s
   pub tells : (b : ℕ) → b < n → Tells version b past (s .marks b)
-  -- the commits and the inserts under way are together no more than the last ticket, which is below 2^32
+  -- §3.6: the commits and the inserts under way are together no more than the last ticket, which is below 2^32
   pub tickets : total commitOf past + total inserting (s .records) ≤ s .last
   pub fits : s .last < 2 ^ 32
   -- a change makes each of the other workers stale at most, and only a stale worker loses

@@ -111,7 +111,7 @@ pub record Totals (o : Opening) (calls : List Call) (turns changed lost inserted
   pub inserts-are : inserts o calls ≡ inserted
   pub removes-are : removes o calls ≡ removed
 
--- §9.5: 34 turns, 6 changes and 1 lost swap, with two inserts and two removes: at most 6 could be lost
+-- §10.6: 34 turns, 6 changes and 1 lost swap, with two inserts and two removes: at most 6 could be lost
 pub sleeper-totals : Totals twoWorkers sleeper 34 6 1 2 2
 unfolding computed
 sleeper-totals = record { turns-are = refl; changes-are = refl; lost-are = refl; inserts-are = refl; removes-are = refl }

@@ -126,7 +126,7 @@ module _ (workers n opened : ℕ) {s u : View} {es : List Entry} {k : ℕ} (walk
     expected =
         act-expects n now y (at-y .new) (at-y .there) (good-now .kept) (at-y .act) (swapper (at-y .act) swap) ∙ saw
 
-    -- a swap that is lost has a change by another worker behind its moment
+    -- between the moment of a lost swap and the swap another worker changed the mark word
     pub lost-since : Loses y → Some (ChangedByAnother y) between
     lost-since lost = by (some-or-none (ChangesIn (y .bucket)) (changes-test (y .bucket)) between)
       where
@@ -164,7 +164,7 @@ module _ (workers n opened : ℕ) {s u : View} {es : List Entry} {k : ℕ} (walk
           in-bucket (y .bucket) f (some .entry) (some .holds .0 .1),
         )
 
-    -- one that is won has no commit and no close by another worker there
+    -- between the moment of a won swap and the swap no other worker made a commit or a close in the bucket
     pub won-since : 0 < n → Wins y → None (CommittedOrClosedByAnother y) between
     won-since positive won some = by (some .holds .1)
       where

@@ -58,6 +58,6 @@ wordRepeats =
 abbrev pub repeatedWord : List Call
 repeatedWord = wordRepeats ++ turnsOf A 1 ∷ []
 
--- §10.7, §10.13: a ticket that was taken before, and a worker whose number is the number of workers
+-- §6.2, §10.7: a ticket that was taken before, and a worker whose number is the number of workers
 abbrev pub refusedStarts : List Call
 refusedStarts = insert 0 7 (ticket 1) ∷ insert 1 8 (ticket 1) ∷ remove 2 7 ∷ []

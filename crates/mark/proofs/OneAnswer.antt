@@ -1,4 +1,4 @@
--- Every promise of this crate is an equation of the answer with a value that the arguments fix. Two answers that meet such a
+-- §12.2: every promise of this crate is an equation of the answer with a value that the arguments fix. Two answers that meet such a
 -- promise are equal. Assumes nothing.
 use mathlib.Core.Path.{_≡_, sym, _∙_}
 

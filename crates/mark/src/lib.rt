@@ -4,10 +4,10 @@ ghost use mathlib.Core.Path.{_≡_};
 ghost use Prim.Native.Nat.{_+_, _*_};
 ghost use Rattle.mark.specs.Word.{version, markOf, setMark, nextVersion, bump, firstEmpty, wellFormed};
 
-// §2.6: the mark of a slot with nothing in it.
+// §2.6: the mark of a slot that may be claimed.
 pub const EMPTY: u8 = 0;
 
-// §2.6: of one whose lot is on the board.
+// §2.6: of one whose lot can be found.
 pub const VALID: u8 = 1;
 
 // §2.6: of one that an insert has claimed.
@@ -45,6 +45,7 @@ pub fn with_mark(word: u64, slot: u8, mark: u8) -> u64
     (word & !(255u64 << shift)) | ((mark as u64) << shift)
 }
 
+// §2.5: the low half.
 #[no_mangle]
 pub extern "C" fn version_of(word: u64) -> u32
     ensures { λ r. ⌜ r ≡ version word ⌝ }

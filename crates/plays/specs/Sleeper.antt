@@ -27,7 +27,7 @@ remove w l = 2 ∷ 0 ∷ 10 ∷ w ∷ 3 ∷ lot l
 abbrev turns : ℕ → ℕ → List ℕ
 turns n w = 3 ∷ 0 ∷ n ∷ replicate n w
 
--- worker 1 reads its word and falls asleep; worker 0 closes lot 7 and opens it again; worker 1 wakes
+-- §10.6: worker 1 reads its word and falls asleep; worker 0 closes lot 7 and opens it again; worker 1 wakes
 abbrev pub sleeperSheet : List ℕ
 sleeperSheet =
     floor 2
@@ -41,7 +41,7 @@ sleeperSheet =
     ++ turns 11 0
     ++ turns 5 1
 
--- its listing, byte by byte: four ends, and 34 turns with 6 changes, 1 lost swap and no full round
+-- §9.5: its listing, byte by byte: four ends, and 34 turns with 6 changes, 1 lost swap and no full round
 abbrev pub sleeperListing : List ℕ
 sleeperListing =
     (69 ∷ 32 ∷ 49 ∷ 49 ∷ 32 ∷ 48 ∷ 32 ∷ 50 ∷ 32 ∷ 49 ∷ 10 ∷ [])  -- E 11 0 2 1

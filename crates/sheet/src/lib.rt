@@ -76,7 +76,7 @@ pub fn words(sheet: &[u8]) -> usize
     0
 }
 
-// §8.6: plays a sheet on a lent board, writes its listing, and tells how long that is.
+// §8.6: plays a sheet on a lent board, its size first and then its fields, writes the listing, and tells how long that is.
 pub fn list(sheet: &[u8], board: &mut [u64], out: &mut [u8; ROOM]) -> usize
     ensures { λ r. ⌜ SheetListed (now (sheet .entry)) (now (board .entry)) (now (out .entry)) (now (board .exit)) (now (out .exit)) r ⌝ }
 {

@@ -11,10 +11,13 @@ use crate::Span;
 use engine::Plan;
 use turn::record;
 
+// §8.2: the tag of a floor.
 const FLOOR: u8 = 1;
 
+// §8.3: the tag of a call.
 const CALL: u8 = 2;
 
+// §8.4: the tag of turns.
 const TURNS: u8 = 3;
 
 // §8.1: so many bytes from a place on as a number, high byte first.

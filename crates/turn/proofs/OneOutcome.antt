@@ -1,4 +1,4 @@
--- Every promise of a call on lent words is one equation, of the words that it leaves with what it hands back. Two outcomes that meet
+-- §12.2: every promise of a call on lent words is one equation, of the words that it leaves with what it hands back. Two outcomes that meet
 -- such a promise are equal in both. Assumes nothing.
 use Prim.Native.Nat.{ℕ}
 use mathlib.Core.Path.{_≡_, sym, ap, _∙_}

@@ -41,6 +41,7 @@ pub struct Report {
     pub full: bool,
 }
 
+// What a step leaves of the worker, and its report.
 pub struct Stepped {
     pub worker: Worker,
     pub report: Report,
@@ -100,6 +101,7 @@ pub fn refused(number: u8, w: Worker) -> Tried
     }
 }
 
+// A turn that is done at a place.
 fn done(stepped: Stepped, place: u8) -> Tried
     ensures { λ r. ⌜ r ≡ done stepped place ⌝ }
 {

@@ -5,12 +5,16 @@ ghost use lib.Dec.{eqb};
 ghost use Rattle.turn.specs.Worker.{idle, started, lookFor, insertOf, removeOf, isIdle, within, heldFits, fits, sound};
 use crate::Worker;
 
+// §3.2: at no call.
 pub const IDLE: u8 = 0;
 
+// §3.2: a look.
 pub const LOOK: u8 = 1;
 
+// §3.2: an insert.
 pub const INSERT: u8 = 2;
 
+// §3.2: a remove.
 pub const REMOVE: u8 = 3;
 
 // §3.3: the record of an idle worker.
