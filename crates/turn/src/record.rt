@@ -45,7 +45,7 @@ pub fn remove_of(lot: u64) -> Worker
     started(REMOVE, 1, lot, 0)
 }
 
-// §3.4: the one place where a record is written out.
+// §3.4: the one place of this crate where a record is written out.
 fn started(kind: u8, place: u8, lot: u64, ticket: u32) -> Worker
     ensures { λ r. ⌜ r ≡ started kind place lot ticket ⌝ }
 {

@@ -72,7 +72,7 @@ fn see_lot(case: &Case, n: u64, met: &mut Vec<String>) {
     }
 }
 
-/// §6.1: calls that are given a list.
+/// §6.1: a call that is given no list is accepted beside one of any length.
 fn see_list(case: &Case, name: &str, met: &mut Vec<String>) {
     let (length, w) = (case.list.length, case.floor.workers);
     if length != w {
