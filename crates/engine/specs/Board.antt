@@ -23,7 +23,7 @@ withBucket board b words = take (8 * b) board ++ (words ++ drop 8 (drop (8 * b) 
 abbrev pub emptyBucket : ℕ → List ℕ
 emptyBucket version = version ∷ 0 ∷ 0 ∷ 0 ∷ 0 ∷ 0 ∷ 0 ∷ 0 ∷ []
 
--- §2.10: so many of them, at a version
+-- §2.10: so many buckets as an opening leaves them
 unfoldable pub openedBoard : ℕ → ℕ → List ℕ
 openedBoard zero version = []
 openedBoard (suc n) version = emptyBucket version ++ openedBoard n version

@@ -4,7 +4,7 @@ ghost use Prim.Native.Nat.{_*_, _≤_};
 ghost use lib.ListN.{length};
 ghost use Rattle.engine.specs.Board.{emptyBucket, openedBoard};
 
-// §2.10: one of them.
+// §2.10: one empty bucket at a version.
 fn clear(bucket: &mut [u64], version: u32)
     requires { ⌜ length (now bucket) ≡ 8 ⌝ }
     ensures { λ r. ⌜ now (bucket .exit) ≡ emptyBucket version ⌝ }
@@ -19,7 +19,7 @@ fn clear(bucket: &mut [u64], version: u32)
     bucket[7] = 0;
 }
 
-// §2.10: all of them.
+// §2.10: every bucket of the board so.
 pub fn open(board: &mut [u64], buckets: usize, version: u32)
     requires { ⌜ (buckets ≤ 256) × (length (now board) ≡ 8 * buckets) ⌝ }
     ensures { λ r. ⌜ now (board .exit) ≡ openedBoard buckets version ⌝ }

@@ -41,7 +41,7 @@ fn is_taken(mark: u8) -> usize
     1
 }
 
-// §2.9: how many of a bucket do.
+// §2.9: how many slots of a mark word count.
 fn in_word(word: u64) -> usize
     ensures { λ r. ⌜ (r ≡ sumMarks taken word) × (r ≤ 3) ⌝ }
 {

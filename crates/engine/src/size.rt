@@ -22,7 +22,7 @@ fn has_wrong_words(floor: Floor, words: usize) -> bool
     words != 8 * floor.buckets
 }
 
-// §6.1: or the number of records is.
+// §6.1: W, N, the number of words or the number of records is wrong.
 pub fn words_are_wrong(floor: Floor, words: usize, listed: usize) -> bool
     ensures { λ r. ⌜ r ≡ wrongListed floor words listed ⌝ }
 {
@@ -32,14 +32,14 @@ pub fn words_are_wrong(floor: Floor, words: usize, listed: usize) -> bool
     listed != floor.workers
 }
 
-// §6.1: the same of a board.
+// §6.1: whether the size of a board is wrong.
 pub fn is_wrong(board: &[u64], floor: Floor) -> bool
     ensures { λ r. ⌜ r ≡ wrongFloor floor (now (board .entry)) ⌝ }
 {
     has_wrong_words(floor, board.len())
 }
 
-// §6.1: the same of a board and a list.
+// §6.1: whether the sizes of a board and a list are wrong.
 pub fn are_wrong(board: &[u64], floor: Floor, listed: usize) -> bool
     ensures { λ r. ⌜ r ≡ wrongSizes floor (now (board .entry)) listed ⌝ }
 {

@@ -42,7 +42,7 @@ fn is_ended(p: Progress) -> bool
     }
 }
 
-// §14.9: with which answer; 0 where it goes on.
+// §14.9: the answer of a call that has ended; 0 where it goes on.
 fn ended_with(p: Progress) -> u64
     ensures { λ r. ⌜ r ≡ endedWith p ⌝ }
 {

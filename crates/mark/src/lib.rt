@@ -7,10 +7,10 @@ ghost use Rattle.mark.specs.Word.{version, markOf, setMark, nextVersion,
 // §2.6: the mark of a slot that may be claimed.
 pub const EMPTY: u8 = 0;
 
-// §2.6: of one whose lot can be found.
+// §2.6: the mark of a slot whose lot can be found.
 pub const VALID: u8 = 1;
 
-// §2.6: of one that an insert has claimed.
+// §2.6: the mark of a slot that an insert has claimed.
 pub const BEING_INSERTED: u8 = 2;
 
 // §3.2: what stands for a slot where there is none, as in a record's held.
@@ -23,7 +23,7 @@ fn mark_shift(slot: u8) -> u32
     32 + 8 * (slot as u32)
 }
 
-// §14.5: shifts and masks.
+// §14.5: a mark is read by a shift and a mask.
 #[no_mangle]
 pub extern "C" fn mark_of(word: u64, slot: u8) -> u8
     ensures { λ r. ⌜ r ≡ markOf word slot ⌝ }
@@ -34,7 +34,7 @@ pub extern "C" fn mark_of(word: u64, slot: u8) -> u8
     ((word >> mark_shift(slot)) & 255) as u8
 }
 
-// §14.5: the same for setting one.
+// §14.5: it is set by shifts and masks.
 pub fn with_mark(word: u64, slot: u8, mark: u8) -> u64
     ensures { λ r. ⌜ r ≡ setMark word slot mark ⌝ }
 {
@@ -45,7 +45,7 @@ pub fn with_mark(word: u64, slot: u8, mark: u8) -> u64
     (word & !(255u64 << shift)) | ((mark as u64) << shift)
 }
 
-// §2.5: the low half.
+// §2.5: the version is the low half.
 #[no_mangle]
 pub extern "C" fn version_of(word: u64) -> u32
     ensures { λ r. ⌜ r ≡ version word ⌝ }

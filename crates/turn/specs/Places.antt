@@ -55,7 +55,7 @@ after2 w x = goesOn Read false (saw 3 x w)
 unfoldable pub after3 : Worker → ℕ → Stepped
 after3 w x = cond (eqb (markOf x (w .slot)) 1) (goesOn Read false (goTo 4 w)) (nextSlot w)
 
--- §5.4: so is the slot of another lot
+-- §5.4: a slot with another lot is passed over
 unfoldable pub after4 : Worker → ℕ → Stepped
 after4 w x = cond (eqb x (w .key)) (goesOn Read false (goTo 5 w)) (nextSlot w)
 
@@ -145,7 +145,7 @@ word w = w .word
 abbrev pub claim : Worker → ℕ
 claim w = setMark (w .word) (w .slot) 2
 
--- §5.9: so is the held slot, as a commit expects it
+-- §5.9: the held slot is being inserted, as a commit expects it
 abbrev pub filled : Worker → ℕ
 filled w = setMark (w .word) (w .held) 2
 

@@ -29,15 +29,15 @@ readPlace = 1
 abbrev pub claimPlace : ℕ
 claimPlace = 6
 
--- §5.7: it stores its ticket
+-- §5.7: an insert stores its ticket
 abbrev pub ticketPlace : ℕ
 ticketPlace = 7
 
--- §5.9: it commits
+-- §5.9: an insert commits
 abbrev pub commitPlace : ℕ
 commitPlace = 9
 
--- §5.10: it gives its slot back
+-- §5.10: an insert gives its slot back
 abbrev pub freePlace : ℕ
 freePlace = 10
 
@@ -69,7 +69,7 @@ lookFor lot = started lookKind 2 lot 0
 abbrev pub insertOf : ℕ → ℕ → Worker
 insertOf lot t = started insertKind readPlace lot t
 
--- §3.4: a remove, with none
+-- §3.4: a remove, which has no ticket
 abbrev pub removeOf : ℕ → Worker
 removeOf lot = started removeKind readPlace lot 0
 
@@ -142,6 +142,6 @@ fits kind place ticket held word =
 unfoldable pub sound : Worker → Bool
 sound w = leb (w .slot) 2 && fits (w .kind) (w .place) (w .ticket) (w .held) (w .word)
 
--- §3.7: a record is broken that is neither
+-- §3.7: a record is broken that is neither idle nor sound
 unfoldable pub broken : Worker → Bool
 broken w = not (isIdle w || sound w)

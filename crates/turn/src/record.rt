@@ -31,14 +31,14 @@ pub fn look_for(lot: u64) -> Worker
     started(LOOK, 2, lot, 0)
 }
 
-// §3.4: of an insert.
+// §3.4: the record of an insert that starts.
 pub fn insert_of(lot: u64, ticket: u32) -> Worker
     ensures { λ r. ⌜ r ≡ insertOf lot ticket ⌝ }
 {
     started(INSERT, 1, lot, ticket)
 }
 
-// §3.4: of a remove.
+// §3.4: the record of a remove that starts.
 pub fn remove_of(lot: u64) -> Worker
     ensures { λ r. ⌜ r ≡ removeOf lot ⌝ }
 {
@@ -154,7 +154,7 @@ fn look_fits(place: u8, ticket: u32, held: u8, word: u64) -> bool
     word == 0
 }
 
-// §3.7: what an insert asks.
+// §3.7: what an insert asks of a busy record, beside its slot.
 fn insert_fits(place: u8, ticket: u32, held: u8, word: u64) -> bool
     ensures { λ r. ⌜ r ≡ fits 2 place ticket held word ⌝ }
 {
@@ -170,7 +170,7 @@ fn insert_fits(place: u8, ticket: u32, held: u8, word: u64) -> bool
     mark::is_well_formed(word)
 }
 
-// §3.7: what a remove asks.
+// §3.7: what a remove asks of a busy record, beside its slot.
 fn remove_fits(place: u8, ticket: u32, held: u8, word: u64) -> bool
     ensures { λ r. ⌜ r ≡ fits 3 place ticket held word ⌝ }
 {
