@@ -1,4 +1,4 @@
-/* The engine of the rules (docs/RULES.md) as one would write it in C who has only those rules: it works on the lent memory itself, tests
+/* The engine as one would write it in C who has only the customers' document of the rules: it works on the lent memory itself, tests
    the sizes once for each call, and has one switch over the place. */
 #include "plain.h"
 

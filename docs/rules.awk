@@ -4,7 +4,7 @@
 #
 # - the rules of a section are numbered from 1 on, and each has one row in the table
 # - a row names definitions and, after them, the file they are in; each of them stands in a paragraph of that file which cites the rule (a
-#   file that has the name itself counts as one paragraph)
+#   file that has the name itself counts as one paragraph). A row without any says that nothing stands for the rule, or has a page instead
 # - what a paragraph of specs/ cites has that paragraph's definition in its row
 # - there is no citation of a rule or a section that is not there
 
@@ -65,6 +65,7 @@ FILENAME ~ /PROMISES\.md$/ {
     sub(/ .*/, "", rule)
     if (rule in row) wrong("PROMISES.md: §" rule " has two rows")
     row[rule] = 1
+    if (line !~ /`/ && line !~ /\| nothing stands for it|\]\(DECISIONS\.md#/) wrong("PROMISES.md: the row of §" rule " leads nowhere")
     waiting = 0
     while (match(line, /`[^`]+`|\]\(\.\.\/[^)]+\)/)) {
       token = substr(line, RSTART, RLENGTH)

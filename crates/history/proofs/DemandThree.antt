@@ -88,7 +88,7 @@ module _ (o : Opening) (calls : List Call) where
         let has = demand-three .moment at (inr lost) in
         (has, demand-three .loses (at-moment has) lost)
 
-    -- a won swap has a moment, and from there to the swap no other worker committed or closed in that bucket
+    -- a won swap has a moment, and from there to the swap no other worker made a commit or a close in its bucket
     pub every-won-swap :
         Wins (at .turn) → (has : HasMoment (at .before) (at .turn)) × None (CommittedOrClosedByAnother (at .turn)) (has .newer)
     every-won-swap won =
