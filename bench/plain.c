@@ -1,5 +1,5 @@
-/* The engine as one would write it in C who has only the customers' document of the rules: it works on the lent memory itself, tests
-   the sizes once for each call, and has one switch over the place. */
+/* The engine as somebody would write it in C who has the customers' documents alone: it works on the lent memory itself, tests the sizes
+   once for each call, and has one switch over the place. */
 #include "plain.h"
 
 enum { MOST_WORKERS = 64, MOST_BUCKETS = 256, MOST_TURNS = 65535 };
@@ -299,7 +299,7 @@ desk_count_outcome plain_count(const uint64_t *board, size_t words, desk_floor f
     size_t lots = 0;
     for (size_t at = 0; at < words; at += BUCKET_WORDS) {
         if (broken_bucket(board + at)) return (desk_count_outcome){.refusal = DESK_BROKEN_BUCKET};
-        for (unsigned slot = 0; slot < SLOTS; slot++) lots += mark(board[at + MARKS], slot) != EMPTY;
+        for (unsigned slot = 0; slot < SLOTS; slot++) lots += mark(board[at + MARKS], slot) == VALID;
     }
     return (desk_count_outcome){.refusal = 0, .lots = lots};
 }

@@ -25,7 +25,7 @@
 /* The number of this interface, for `#if`. It goes up by one when a program that was written for it has to be looked at again: a
    struct has another layout, a function takes or answers something else, a constant stands for something else. Whoever upgrades compares
    it with the number that his program was written for. It has nothing to do with the version in a mark word. */
-#define DESK_VERSION 1
+#define DESK_VERSION 2
 
 /* ---- numbers */
 
@@ -173,7 +173,7 @@ typedef struct {
 
 /* What a count comes to. */
 typedef struct {
-    size_t lots;     /* slots that are not empty, over the whole board; 0 where refused */
+    size_t lots;     /* slots whose mark is valid, over the whole board; 0 where refused */
     uint8_t refusal; /* DESK_DONE, or why it is refused */
 } desk_count_outcome;
 
@@ -210,7 +210,8 @@ desk_run_outcome desk_run(uint64_t *board, size_t words, desk_worker *records, s
 desk_part desk_show(const uint64_t *board, size_t words, desk_floor floor, uint64_t lot);
 uint8_t desk_show_refusal(const uint64_t *board, size_t words, desk_floor floor, uint64_t lot);
 
-/* Counts the slots of the board that are not empty. */
+/* Counts the lots on the board, which are the slots whose mark is valid. One that is being inserted counts from its commit on, and a
+   show of its bucket has it before that. */
 desk_count_outcome desk_count(const uint64_t *board, size_t words, desk_floor floor);
 
 #ifdef __cplusplus

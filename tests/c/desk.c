@@ -1,5 +1,6 @@
 /* The library from C: every field where C reads it, the sleeper by single turns and by one run, a show and a count with the header's own
-   readers, every refusal (refusals.c), and a full round. Says what is not as it should be, and how many checks were made. */
+   readers, what the screen shows of an insert turn by turn, every refusal (refusals.c), and a full round. Says what is not as it should
+   be, and how many checks were made. */
 #include "hall.h"
 #include <stdio.h>
 
@@ -46,6 +47,13 @@ static void test_layout(void) {
     CHECK(start_remove(&one, 1, 5) == DESK_BUSY_WORKER);
 }
 
+/* what a count tells, where it is accepted */
+static size_t counted(const hall *h) {
+    desk_count_outcome c = desk_count(h->board, h->words, h->floor);
+    CHECK(c.refusal == DESK_DONE);
+    return c.lots;
+}
+
 /* ---- the sleeper: 34 turns, by single turns, and again by runs: one for each stretch of a worker */
 
 typedef struct {
@@ -89,15 +97,17 @@ static void sleeper(hall *h, void (*play)(hall *, stretch, desk_totals *)) {
     CHECK(start_insert(h, 0, 7, 1) == DESK_DONE);
     play(h, (stretch){0, 11, 1, true}, &sum);
     CHECK(h->board[0] == 4294967297u);
-    CHECK(desk_count(h->board, h->words, h->floor).lots == 1);
+    CHECK(counted(h) == 1);
     CHECK(start_remove(h, 1, 7) == DESK_DONE);
     play(h, (stretch){1, 3, 0, false}, &sum);
     CHECK(start_remove(h, 0, 7) == DESK_DONE);
     play(h, (stretch){0, 4, 1, true}, &sum);
     CHECK(h->board[0] == 1);
+    CHECK(counted(h) == 0);
     CHECK(start_insert(h, 0, 7, 2) == DESK_DONE);
     play(h, (stretch){0, 11, 1, true}, &sum);
     CHECK(h->board[0] == 4294967298u);
+    CHECK(counted(h) == 1);
     play(h, (stretch){1, 5, 2, true}, &sum);
     CHECK(sum.turns == 34 && sum.changes == 6 && sum.lost == 1 && sum.full == 0);
     CHECK(h->floor.last == 2);
@@ -124,7 +134,7 @@ static void test_sleeper(void) {
     desk_part p = desk_show(one.board, one.words, one.floor, 7);
     CHECK(p.start == 0 && p.words == 8);
     CHECK(one.board[0] == 2 && one.board[1] == 7 && one.board[4] == 2 && one.board[7] == 0);
-    CHECK(desk_count(one.board, one.words, one.floor).lots == 0);
+    CHECK(counted(&one) == 0);
 }
 
 /* ---- a show, a count, and the header's own readers of what stands there */
@@ -141,8 +151,7 @@ static void test_show(void) {
     CHECK(desk_show_refusal(one.board, one.words, one.floor, 513) == 0);
     p = desk_show(one.board, one.words, one.floor, UINT64_MAX);
     CHECK(p.start == 2040 && p.words == 8);
-    desk_count_outcome c = desk_count(one.board, one.words, one.floor);
-    CHECK(c.refusal == DESK_DONE && c.lots == 1);
+    CHECK(counted(&one) == 1);
 }
 
 static void test_buckets_of_lots(void) {
@@ -180,8 +189,74 @@ static void test_readers(void) {
         CHECK(desk_mark(UINT64_MAX, no_slots[i]) == DESK_MARK_EMPTY);
         CHECK(desk_key(bucket, no_slots[i]) == 0 && desk_value(bucket, no_slots[i]) == 0);
     }
-    desk_count_outcome c = desk_count(one.board, one.words, one.floor);
-    CHECK(c.refusal == DESK_DONE && c.lots == 3);
+    CHECK(counted(&one) == 2);
+}
+
+/* ---- the screen: what a count tells and a show has, turn by turn */
+
+/* the mark of a slot of the lot's bucket, by a show */
+static uint8_t shown(const hall *h, uint64_t lot, size_t slot) {
+    desk_part p = desk_show(h->board, h->words, h->floor, lot);
+    CHECK(p.words == DESK_BUCKET_WORDS);
+    return desk_mark(h->board[p.start + DESK_AT_MARK], slot);
+}
+
+static void screen(const hall *h, uint8_t mark, size_t lots) { CHECK(shown(h, 7, 0) == mark && counted(h) == lots); }
+
+/* an insert is shown from its claim on, the eighth turn, and counted from its commit on, the eleventh; a look beside it finds nothing */
+static void stopped_insert(hall *h) {
+    opened(h, 2, 1, 0);
+    CHECK(start_insert(h, 0, 7, 1) == DESK_DONE);
+    for (unsigned i = 1; i <= 7; i++) {
+        CHECK(!turn(h, 0).ended);
+        screen(h, DESK_MARK_EMPTY, 0);
+    }
+    CHECK(turn(h, 0).action == DESK_WON && h->board[0] == 8589934592u);
+    screen(h, DESK_MARK_INSERTING, 0);
+    CHECK(start_look(h, 1, 7) == DESK_DONE);
+    for (unsigned i = 1; i <= 6; i++) {
+        desk_turn_outcome t = turn(h, 1);
+        CHECK(t.refusal == DESK_DONE && t.ended == (i == 6) && t.answer == 0);
+        screen(h, DESK_MARK_INSERTING, 0);
+    }
+    for (unsigned i = 9; i <= 10; i++) {
+        CHECK(turn(h, 0).action == DESK_STORE);
+        screen(h, DESK_MARK_INSERTING, 0);
+    }
+    desk_turn_outcome t = turn(h, 0);
+    CHECK(t.ended && t.answer == 1);
+    screen(h, DESK_MARK_VALID, 1);
+}
+
+/* turns of worker 0, so many at most while its call goes on, with so many lots on the screen before each; the last one's outcome */
+static desk_turn_outcome go_on(hall *h, unsigned turns, size_t lots) {
+    desk_turn_outcome t = {0};
+    for (unsigned i = 0; i < turns && !t.ended; i++) {
+        CHECK(counted(h) == lots);
+        t = turn(h, 0);
+    }
+    return t;
+}
+
+/* three lots have their bids, and the fourth has its slot and no bid yet: the screen has three, and four with its commit */
+static void four_slots_and_three_bids(hall *h) {
+    opened(h, 1, 2, 0);
+    for (uint32_t lot = 1; lot <= 3; lot++) {
+        CHECK(start_insert(h, 0, lot, lot) == DESK_DONE);
+        CHECK(go_on(h, 20, lot - 1).answer == 1 && counted(h) == lot);
+    }
+    CHECK(start_insert(h, 0, 4, 4) == DESK_DONE);
+    CHECK(go_on(h, 9, 3).action == DESK_WON);
+    CHECK(shown(h, 2, 0) == DESK_MARK_VALID && shown(h, 4, 1) == DESK_MARK_INSERTING);
+    CHECK(shown(h, 1, 0) == DESK_MARK_VALID && shown(h, 3, 1) == DESK_MARK_VALID);
+    CHECK(go_on(h, 3, 3).answer == 1 && counted(h) == 4);
+    CHECK(start_remove(h, 0, 2) == DESK_DONE);
+    CHECK(go_on(h, 20, 4).answer == 2 && counted(h) == 3);
+}
+
+static void test_screen(void) {
+    stopped_insert(&one);
+    four_slots_and_three_bids(&one);
 }
 
 /* a fourth lot finds no slot: its tenth turn is a full round, and it begins again */
@@ -193,7 +268,7 @@ static void test_full_round(void) {
         for (unsigned i = 0; i < 20 && !t.ended; i++) t = turn(&one, 0);
         CHECK(t.ended && t.answer == 1);
     }
-    CHECK(desk_count(one.board, one.words, one.floor).lots == 3);
+    CHECK(counted(&one) == 3);
     CHECK(start_insert(&one, 0, 20, 4) == DESK_DONE);
     copy_hall(&two, &one);
     for (unsigned i = 0; i < 10; i++) {
@@ -212,6 +287,7 @@ int main(void) {
     test_show();
     test_buckets_of_lots();
     test_readers();
+    test_screen();
     test_refusals();
     test_full_round();
     printf("%u checks, %u wrong\n", checks, wrong);

@@ -52,7 +52,7 @@ SIZE(desk_count_outcome, 16);
 AT(desk_count_outcome, lots, 0);
 AT(desk_count_outcome, refusal, 8);
 
-IS(DESK_VERSION, 1);
+IS(DESK_VERSION, 2);
 IS(DESK_MOST_WORKERS, 64);
 IS(DESK_MOST_BUCKETS, 256);
 IS(DESK_MOST_TURNS, 65535);

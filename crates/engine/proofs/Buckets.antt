@@ -9,10 +9,10 @@ use native.Mathlib.Numerals.{add-one}
 use native.Mathlib.Decide.{ℕ-discrete}
 use lib.ListN.{length, take, drop, getD, length-append, length-drop, drop-of-length-le}
 use lib.Seq.{take-at, drop-at, drop-drop}
-use Rattle.mark.specs.Word.{sumMarks}
+use Rattle.mark.specs.Word.{countMarks}
 use Rattle.mark.proofs.Choices.{first-holds}
 use Rattle.turn.specs.Bucket.{brokenBucket, cell, markCell}
-use Rattle.engine.specs.Board.{bucketAt, withBucket, emptyBucket, openedBoard, taken, lotsOn, anyBroken}
+use Rattle.engine.specs.Board.{bucketAt, withBucket, emptyBucket, openedBoard, lotsOn, anyBroken}
 use Rattle.engine.proofs.Cut.{bucket-word}
 
 -- ---- an opening
@@ -68,7 +68,7 @@ module _ (board : List ℕ) where
   mark-at b = bucket-word board b 0 (omega arith) ∙ ap (λ (n : ℕ). getD board n 0) (add-zero (8 * b))
 
   -- the lots of one bucket more
-  pub lots-next : (b : ℕ) → lotsOn board b + sumMarks taken (getD board (8 * b) 0) ≡ lotsOn board (b + 1)
+  pub lots-next : (b : ℕ) → lotsOn board b + countMarks 1 (getD board (8 * b) 0) ≡ lotsOn board (b + 1)
   unfolding lotsOn
   lots-next b = rw (add-one b, mark-at b)
 

@@ -1,10 +1,9 @@
 -- The lent board, bucket after bucket.
 use Prim.Native.Nat.{ℕ, zero, suc, _+_, _*_, _%_}
-use mathlib.Core.Bool.{Bool, false, cond, _||_}
+use mathlib.Core.Bool.{Bool, false, _||_}
 use mathlib.Core.List.{List, [], _∷_, _++_}
 use lib.ListN.{take, drop}
-use lib.Dec.{eqb}
-use Rattle.mark.specs.Word.{sumMarks}
+use Rattle.mark.specs.Word.{countMarks}
 use Rattle.turn.specs.Bucket.{cell, markCell, brokenBucket}
 
 -- §2.4: the number of a lot's bucket, of n
@@ -28,14 +27,10 @@ unfoldable pub openedBoard : ℕ → ℕ → List ℕ
 openedBoard zero version = []
 openedBoard (suc n) version = emptyBucket version ++ openedBoard n version
 
--- §2.9: 1 for the mark of a slot that counts, else 0
-abbrev pub taken : ℕ → ℕ
-taken mark = cond (eqb mark 0) 0 1
-
--- §2.9: the lots in the first n buckets
+-- §2.9: the lots in the first n buckets, one for each slot that is valid
 unfoldable pub lotsOn : List ℕ → ℕ → ℕ
 lotsOn board zero = 0
-lotsOn board (suc b) = lotsOn board b + sumMarks taken (cell (bucketAt board b) markCell)
+lotsOn board (suc b) = lotsOn board b + countMarks 1 (cell (bucketAt board b) markCell)
 
 -- §6.7: whether one of the first n buckets is broken
 unfoldable pub anyBroken : List ℕ → ℕ → Bool

@@ -3,9 +3,9 @@ ghost use mathlib.Core.Path.{_≡_};
 ghost use mathlib.Core.Bool.{cond};
 ghost use Prim.Native.Nat.{_+_, _*_, _≤_, _<_};
 ghost use lib.ListN.{length};
-ghost use Rattle.mark.specs.Word.{sumMarks};
+ghost use Rattle.mark.specs.Word.{isMark, countMarks};
 ghost use Rattle.turn.specs.Bucket.{brokenBucket};
-ghost use Rattle.engine.specs.Board.{bucketOf, taken, lotsOn, anyBroken};
+ghost use Rattle.engine.specs.Board.{bucketOf, lotsOn, anyBroken};
 ghost use Rattle.engine.specs.Refusals.{bucketFor};
 ghost use Rattle.engine.specs.Room.{Right};
 use crate::Counted;
@@ -31,23 +31,23 @@ pub fn is_broken(board: &[u64], floor: Floor, lot: u64) -> bool
     bucket::is_broken(&board[at..at + 8])
 }
 
-// §2.9: whether a slot counts.
-fn is_taken(mark: u8) -> usize
-    ensures { λ r. ⌜ (r ≡ taken mark) × (r ≤ 1) ⌝ }
+// §2.9: what a slot with this mark counts for.
+fn one_if_valid(mark: u8) -> usize
+    ensures { λ r. ⌜ (r ≡ isMark 1 mark) × (r ≤ 1) ⌝ }
 {
-    if mark == mark::EMPTY {
-        return 0;
+    if mark == mark::VALID {
+        return 1;
     }
-    1
+    0
 }
 
-// §2.9: how many slots of a mark word count.
+// §2.9: how many slots of a mark word are valid.
 fn in_word(word: u64) -> usize
-    ensures { λ r. ⌜ (r ≡ sumMarks taken word) × (r ≤ 3) ⌝ }
+    ensures { λ r. ⌜ (r ≡ countMarks 1 word) × (r ≤ 3) ⌝ }
 {
-    let first = is_taken(mark::mark_of(word, 0));
-    let second = is_taken(mark::mark_of(word, 1));
-    let third = is_taken(mark::mark_of(word, 2));
+    let first = one_if_valid(mark::mark_of(word, 0));
+    let second = one_if_valid(mark::mark_of(word, 1));
+    let third = one_if_valid(mark::mark_of(word, 2));
     first + second + third
 }
 

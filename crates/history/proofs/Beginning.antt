@@ -1,11 +1,11 @@
--- An opened board is good: every worker is idle, every bucket has the opening's version and no mark. Assumes nothing.
-use Prim.Native.Nat.{ℕ, _^_, _<_}
+-- An opened board is good: every worker is idle, every bucket has the opening's version and no mark. So every history is. Assumes nothing.
+use Prim.Native.Nat.{ℕ, _+_, _*_, _^_, _<_}
 use mathlib.Core.List.{List, []}
 use mathlib.Core.Logic.{_⊎_, inl, inr}
 use mathlib.Core.Path.{_≡_, refl, ap, _∙_}
 use native.Mathlib.Omega.{arith}
 use lib.ListN.{length}
-use Rattle.mark.specs.Word.{version, markOf, sumMarks, countMarks}
+use Rattle.mark.specs.Word.{version, markOf, countMarks}
 use Rattle.mark.proofs.Slots.{slots, mark-past}
 use Rattle.turn.specs.declared.Worker.{Worker}
 use Rattle.turn.specs.Worker.{idle}
@@ -13,15 +13,17 @@ use Rattle.turn.specs.Bucket.{cell, markCell}
 use Rattle.turn.proofs.Lands.{elsewhere}
 use Rattle.engine.specs.Calls.{blank}
 use Rattle.history.specs.Trace.{total}
-use Rattle.history.specs.History.{State, Opening, opened}
+use Rattle.history.specs.History.{State, Opening, Call, opened, workersOf, state, trace, inserts, removes}
 use Rattle.history.proofs.Sums.{total-none}
 use Rattle.history.proofs.View.{worker, inserting, left, Aware}
 use Rattle.history.proofs.Held.{Holds, Kept}
 use Rattle.history.proofs.Versions.{Tells}
 use Rattle.history.proofs.Charges.{stale}
-use Rattle.history.proofs.Good.{Good}
+use Rattle.history.proofs.Counts.{onto}
+use Rattle.history.proofs.Good.{Good, walk-good}
 use Rattle.history.proofs.States.{view}
 use Rattle.history.proofs.Opened.{opened-is, opened-listed, opened-idle, opened-bucket}
+use Rattle.history.proofs.Walking.{history-walk}
 
 -- a word that is a version alone has no mark
 pub no-mark : (v : ℕ) → v < 2 ^ 32 → (i : ℕ) → markOf v i ≡ 0
@@ -30,7 +32,7 @@ no-mark v fits = slots (λ (i : ℕ). markOf v i ≡ 0) (omega arith) (omega ari
 
 -- and tells of no commit and no close
 empty-tells : (v b : ℕ) → v < 2 ^ 32 → Tells v b [] v
-unfolding total version countMarks sumMarks
+unfolding total version countMarks
 empty-tells v b fits = record { commits = omega arith; valid = rw (no-mark v fits 0, no-mark v fits 1, no-mark v fits 2) (omega arith) }
 
 module _ (o : Opening) where
@@ -85,3 +87,10 @@ module _ (o : Opening) where
         charge = omega (arith, counts-none (stale (o .plan .buckets) (view (opened o) .marks)) refl);
         budget = omega (arith, counts-none left refl);
       }
+
+  -- every history is good, with its turns behind it, the newest first
+  pub history-good :
+      (calls : List Call)
+      → Good (workersOf o) (o .plan .buckets) (o .plan .version) (view (state o calls)) (onto (trace o calls) [])
+      (2 * inserts o calls + removes o calls + 0)
+  history-good calls = walk-good (workersOf o) (o .plan .buckets) (o .plan .version) (history-walk o calls) [] 0 opened-good

@@ -12,14 +12,13 @@ use Rattle.history.specs.History.{Opening, Call, opened, workersOf, stat
 use Rattle.history.specs.Demand.{DemandThree}
 use Rattle.history.proofs.View.{View, Walk}
 use Rattle.history.proofs.Counts.{lossOf, onto, total-onto}
-use Rattle.history.proofs.Good.{walk-good}
 use Rattle.history.proofs.Cuts.{cut-at}
 use Rattle.history.proofs.Remembers.{Still, back}
 use Rattle.history.proofs.Swaps.{swap-aware, lost-since, won-since}
 use Rattle.history.proofs.States.{view}
 use Rattle.history.proofs.Opened.{opened-right}
 use Rattle.history.proofs.Walking.{history-walk}
-use Rattle.history.proofs.Beginning.{opened-unaware, opened-good}
+use Rattle.history.proofs.Beginning.{opened-unaware, opened-good, history-good}
 
 module _ (o : Opening) (calls : List Call) where
   abbrev n : ℕ
@@ -52,7 +51,7 @@ module _ (o : Opening) (calls : List Call) where
   lost-swaps-bound : lostSwaps (trace o calls) ≤ mostLost o calls
   unfolding total
   lost-swaps-bound =
-      let good = walk-good (workersOf o) n (o .plan .version) walk [] 0 (opened-good o) in
+      let good = history-good o calls in
       let lost = total-onto lossOf (trace o calls) [] in
       let changes = changesIn (onto (trace o calls) []) in
       let allowed = 2 * inserts o calls + removes o calls in

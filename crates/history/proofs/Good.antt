@@ -9,11 +9,11 @@ use lib.ListN.{length, length-set}
 use Rattle.turn.specs.declared.Worker.{Worker}
 use Rattle.turn.specs.Effects.{Effect}
 use Rattle.history.specs.Trace.{Entry, total}
-use Rattle.history.specs.Counts.{lostSwaps, changesIn}
+use Rattle.history.specs.Counts.{lostSwaps, changesIn, commitsIn}
 use Rattle.history.proofs.Sums.{total-set, total-others}
 use Rattle.history.proofs.View.{View, worker, inserting, left, Starts, Acts, quiet-marks, Walk, stays, starts, acts}
 use Rattle.history.proofs.Lawful.{changed, committed, changed-le}
-use Rattle.history.proofs.Counts.{lossOf, changeOf, commitOf, lost-quiet, onto}
+use Rattle.history.proofs.Counts.{lossOf, changeOf, lost-quiet, onto}
 use Rattle.history.proofs.Held.{Kept, act-kept, start-kept}
 use Rattle.history.proofs.Versions.{Tells, act-tells}
 use Rattle.history.proofs.Minds.{moves-minds}
@@ -25,7 +25,7 @@ pub record Good (workers n version : ℕ) (s : View) (past : List Entry) (k : �
   pub kept : Kept n s
   pub tells : (b : ℕ) → b < n → Tells version b past (s .marks b)
   -- §3.6: the commits and the inserts under way are together no more than the last ticket, which is below 2^32
-  pub tickets : total commitOf past + total inserting (s .records) ≤ s .last
+  pub tickets : commitsIn past + total inserting (s .records) ≤ s .last
   pub fits : s .last < 2 ^ 32
   -- a change makes each of the other workers stale at most, and only a stale worker loses
   pub charge : lostSwaps past + total (stale n (s .marks)) (s .records) ≤ (workers - 1) * changesIn past

@@ -4,6 +4,7 @@ pub mod Openings
 pub mod NoValueComesBack
 pub mod Unbroken
 pub mod Unrefused
+pub mod Lots
 pub mod SameSizes
 pub mod Reached
 pub mod ValuesReached

@@ -22,6 +22,7 @@ use Rattle.history.proofs.Histories.{stateFrom-then, traceFrom-then}
 use Rattle.history.proofs.DemandThree.{demand-three}
 use Rattle.history.proofs.SameSizes.{state-workers, state-buckets}
 use Rattle.history.proofs.NoValueComesBack.{no-value-comes-back}
+use Rattle.history.proofs.Lots.{count-tells}
 use Rattle.history.proofs.Unbroken.{state-unbroken}
 
 -- an opening that is refused leaves everything as it was
@@ -87,6 +88,7 @@ any-order o asked =
       turns = all .turns-are;
       demand = demand-three (h .opening) (h .calls);
       values = no-value-comes-back (h .opening) (h .calls);
+      counted = count-tells (h .opening) (h .calls);
       unbroken = subst Unbroken (sym (all .stands)) (state-unbroken (h .opening) (h .calls));
     }
 

@@ -15,17 +15,17 @@ use Rattle.history.proofs.Counts.{commitOf, closeOf, inBucket, in-bucke
 use Rattle.history.proofs.Held.{Kept, act-lawful}
 
 -- the commits of a bucket
-abbrev pub commitsIn : ℕ → List Entry → ℕ
-commitsIn b past = total (inBucket b commitOf) past
+abbrev pub commitsAt : ℕ → List Entry → ℕ
+commitsAt b past = total (inBucket b commitOf) past
 
--- its closes
-abbrev pub closesIn : ℕ → List Entry → ℕ
-closesIn b past = total (inBucket b closeOf) past
+-- the closes of a bucket
+abbrev pub closesAt : ℕ → List Entry → ℕ
+closesAt b past = total (inBucket b closeOf) past
 
 -- what the mark word m of a bucket opened at version v tells of its entries
 pub record Tells (v b : ℕ) (past : List Entry) (m : ℕ) : Type 0 where
-  pub commits : version m ≡ (v + commitsIn b past) % 2 ^ 32
-  pub valid : countMarks 1 m + closesIn b past ≡ commitsIn b past
+  pub commits : version m ≡ (v + commitsAt b past) % 2 ^ 32
+  pub valid : countMarks 1 m + closesAt b past ≡ commitsAt b past
 
 module _ (v n : ℕ) (s : View) (e : Entry) (w : Worker) (t : View) (kept : Kept n s) (act : Acts n s e w t) (past : List Entry) where
   abbrev effect : Effect

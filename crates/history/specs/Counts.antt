@@ -84,6 +84,14 @@ lostSwaps trace = howMany isLost trace
 abbrev pub changesIn : List Entry → ℕ
 changesIn trace = howMany isChange trace
 
+-- the commits of a trace
+abbrev pub commitsIn : List Entry → ℕ
+commitsIn trace = howMany isCommit trace
+
+-- the closes of a trace
+abbrev pub closesIn : List Entry → ℕ
+closesIn trace = howMany isClose trace
+
 -- its full rounds
 abbrev pub fullRounds : List Entry → ℕ
 fullRounds trace = total (λ e. cond (e .report .full) 1 0) trace

@@ -8,4 +8,5 @@ pub mod Openings
 pub mod Values
 pub mod Unbroken
 pub mod Singly
+pub mod Lots
 pub mod Trials

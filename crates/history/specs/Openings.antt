@@ -12,6 +12,7 @@ use Rattle.history.specs.Trace.{Entry}
 use Rattle.history.specs.History.{State, Opening, Call, opened, openedAs, after, entries, state, trace}
 use Rattle.history.specs.Demand.{DemandThree}
 use Rattle.history.specs.Values.{NoValueComesBack}
+use Rattle.history.specs.Lots.{CountTells}
 use Rattle.history.specs.Unbroken.{Unbroken}
 
 -- whatever may be asked of the library, with any numbers
@@ -94,5 +95,7 @@ pub record AnyOrder (o : Opening) (asked : List Asked) : Type 0 where
   pub demand : DemandThree (historyOf o asked .opening) (historyOf o asked .calls)
   -- no value comes back in it
   pub values : NoValueComesBack (historyOf o asked .opening) (historyOf o asked .calls)
+  -- a count tells the commits less the closes of its turns
+  pub counted : CountTells (historyOf o asked .opening) (historyOf o asked .calls)
   -- and nothing is broken
   pub unbroken : Unbroken (leavesAll (opened o) asked)

@@ -46,14 +46,10 @@ firstEmpty word =
 unfoldable pub wellFormed : ℕ → Bool
 wellFormed word = leb (markOf word 0) 2 && (leb (markOf word 1) 2 && (leb (markOf word 2) 2 && eqb (byte7 word) 0))
 
--- a number for each of the three marks, added up
-unfoldable pub sumMarks : (ℕ → ℕ) → ℕ → ℕ
-sumMarks f word = f (markOf word 0) + f (markOf word 1) + f (markOf word 2)
-
 -- 1 if a mark is n, else 0
 abbrev pub isMark : ℕ → ℕ → ℕ
 isMark n mark = cond (eqb mark n) 1 0
 
 -- how many of the three marks are n
 unfoldable pub countMarks : ℕ → ℕ → ℕ
-countMarks n word = sumMarks (isMark n) word
+countMarks n word = isMark n (markOf word 0) + isMark n (markOf word 1) + isMark n (markOf word 2)

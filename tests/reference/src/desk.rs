@@ -4,7 +4,7 @@ use crate::call::Call;
 use crate::frame::Action;
 use crate::memory::{Board, Bucket, BUCKET_WORDS};
 use crate::record::{Record, INSERT};
-use crate::word::{Snapshot, MAP_INVLD};
+use crate::word::{Snapshot, MAP_INVLD, MAP_VALID};
 
 /// A number of refusal.
 pub type Refusal = u8;
@@ -216,7 +216,7 @@ impl Desk {
         ))
     }
 
-    /// §2.9; refused as §7.2 has it.
+    /// §2.9: a lot that is being inserted is not on the board yet; refused as §7.2 has it.
     pub fn count(&self) -> Result<u64, Refusal> {
         self.measure(self.floor.workers, self.floor.buckets, false)?;
         let buckets = || (0..self.floor.buckets as usize).map(|number| self.board.bucket(number));
@@ -225,7 +225,7 @@ impl Desk {
         }
         let lots = buckets()
             .flat_map(|bucket| Snapshot::of(bucket.snapshot()).map)
-            .filter(|&mark| mark != MAP_INVLD)
+            .filter(|&mark| mark == MAP_VALID)
             .count();
         Ok(lots as u64)
     }

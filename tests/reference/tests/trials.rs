@@ -4,6 +4,7 @@ use reference::desk::{Counts, Desk, Floor, List, Manner, Report};
 use reference::frame::Action;
 use reference::record::{Record, INSERT, LOOK, REMOVE};
 use reference::sheet::listing;
+use reference::word::Snapshot;
 
 /// One bucket, version 0.
 fn on_both(workers: u64, version: u32, trial: impl Fn(Desk)) {
@@ -41,6 +42,12 @@ fn sum(parts: &[Counts]) -> (u64, u64) {
 
 fn mark_word(desk: &Desk) -> u64 {
     desk.board.words()[0]
+}
+
+/// The marks of the lot's bucket as it is shown.
+fn shown_marks(desk: &Desk, lot: u64) -> [u8; 3] {
+    let (_, part) = desk.show(lot).unwrap();
+    Snapshot::of(part[0]).map
 }
 
 /// P2, from which others go on.
@@ -206,9 +213,36 @@ fn insert_stopped_after_8_turns() {
         desk.start(INSERT, 0, 7, 1).unwrap();
         go_on(&mut desk, 0, 8);
         assert_eq!(mark_word(&desk), 8_589_934_592);
+        assert_eq!(shown_marks(&desk, 7), [2, 0, 0]);
+        assert_eq!(desk.count(), Ok(0));
         desk.start(LOOK, 1, 7, 0).unwrap();
         end(&mut desk, 1, 6, 0);
+        end(&mut desk, 0, 11 - 8, 1);
+        assert_eq!(shown_marks(&desk, 7), [1, 0, 0]);
+        assert_eq!(desk.count(), Ok(1));
     });
+}
+
+/// §2.9: four slots are taken, and one of them is being inserted from the ninth turn of its insert to the eleventh.
+#[test]
+fn a_lot_half_written_is_not_counted() {
+    for manner in [Manner::Living, Manner::Remade] {
+        let mut desk = Desk::opened(1, 2, 0, manner).unwrap();
+        for (lot, turns) in [(2, 11), (3, 11), (4, 12)] {
+            desk.start(INSERT, 0, lot, lot as u32).unwrap();
+            end(&mut desk, 0, turns, 1);
+        }
+        desk.start(INSERT, 0, 5, 5).unwrap();
+        go_on(&mut desk, 0, 8);
+        for _ in 9..=11 {
+            go_on(&mut desk, 0, 1);
+            assert_eq!(shown_marks(&desk, 4), [1, 1, 0]);
+            assert_eq!(shown_marks(&desk, 5), [1, 2, 0]);
+            assert_eq!(desk.count(), Ok(3));
+        }
+        end(&mut desk, 0, 1, 1);
+        assert_eq!(desk.count(), Ok(4));
+    }
 }
 
 #[test]

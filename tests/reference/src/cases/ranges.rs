@@ -4,6 +4,7 @@ use super::build::{mark_word, set_bucket};
 use super::Bodies;
 use crate::case::{self, Case, COUNT, INSERT, LOOK, OPEN, REMOVE, RUN, SHOW, TURN};
 use crate::memory::BUCKET_WORDS;
+use crate::outcome::outcome;
 use crate::record::Record;
 
 pub fn make(bodies: &mut Bodies) {
@@ -172,6 +173,34 @@ fn counts(bodies: &mut Bodies) {
             bodies.push(case);
         }
     }
+    half_written(bodies);
+}
+
+/// §2.9: a half-written slot beside lots, in every order of one bucket, and in either of two buckets as one of four slots.
+fn half_written(bodies: &mut Bodies) {
+    for map in [
+        [0, 1, 2],
+        [0, 2, 1],
+        [1, 0, 2],
+        [1, 2, 0],
+        [2, 0, 1],
+        [2, 1, 0],
+    ] {
+        bodies.push(count_over(&[map]));
+    }
+    bodies.push(count_over(&[[2, 1, 0], [1, 1, 0]]));
+    bodies.push(count_over(&[[1, 1, 0], [1, 2, 0]]));
+}
+
+/// A count over buckets of these marks, and no list, since it takes none. Every key and value is filled, so that the marks alone tell
+/// what is on the board.
+fn count_over(maps: &[[u8; 3]]) -> Case {
+    let mut case = Case::read(&[COUNT, 1, maps.len() as u8]);
+    let buckets = maps
+        .iter()
+        .map(|&map| [mark_word(0, map), 7, 7, 7, 7, 7, 7, 0]);
+    case.board = buckets.flatten().collect();
+    case
 }
 
 /// Runs of several workers that meet in few buckets, and one that has every count more than 0.
@@ -218,7 +247,7 @@ fn everything_at_once(bodies: &mut Bodies) {
     bodies.push(case);
 }
 
-/// §10.12: an insert that is stopped, and a look beside it.
+/// §10.12: an insert that is stopped, a look beside it, and its commit; what is shown and counted before that and after.
 fn trials(bodies: &mut Bodies) {
     let mut case = bodies.random.sound_sized(RUN, 2, 1);
     case.floor.last_ticket = 1;
@@ -239,12 +268,35 @@ fn trials(bodies: &mut Bodies) {
     case.list.records = vec![insert, look];
     case.turns = vec![0; 8];
     bodies.push(case.clone());
-    let after = crate::outcome::outcome(&case);
-    case.board = after.board;
-    case.list.records = after.records;
+    leave(&mut case);
     case.turns = vec![1; 6];
     bodies.push(case.clone());
     case.call = case::TURN;
     case.worker = 1;
-    bodies.push(case);
+    bodies.push(case.clone());
+    show_and_count(bodies, &case);
+    case.call = RUN;
+    case.turns = vec![0; 3];
+    bodies.push(case.clone());
+    leave(&mut case);
+    show_and_count(bodies, &case);
+}
+
+/// The board and the records become what the case leaves.
+fn leave(case: &mut Case) {
+    let after = outcome(case);
+    case.board = after.board;
+    case.list.records = after.records;
+}
+
+/// A show of the trial's lot and a count, on what the case stands on.
+fn show_and_count(bodies: &mut Bodies, case: &Case) {
+    for call in [SHOW, COUNT] {
+        bodies.push(Case {
+            call,
+            lot: 7,
+            turns: Vec::new(),
+            ..case.clone()
+        });
+    }
 }

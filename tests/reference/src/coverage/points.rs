@@ -113,7 +113,11 @@ const POINTS: &[&str] = &[
     "run: turn 65535 stops it",
     "run: 9 of {65536,65540} turns",
     "count: {0,1,768} lots",
+    "count: 0 lots beside {0,1,768} marks 2",
+    "count: 3 lots beside a mark 2 in bucket {0,N-1}",
+    "count: marks {012,021,102,120,201,210} in the only bucket",
     "count: mark {1,2} alone",
+    "count: a lot in two valid slots",
     // runs
     "run: a call ends and its worker is idle then",
     "run: a refused turn stands before others",
@@ -123,6 +127,9 @@ const POINTS: &[&str] = &[
     // the trials that are not proved together
     "trial: an insert's first 8 turns leave 8589934592",
     "trial: beside it a look of 6 turns ends with 0",
+    "trial: beside it a {count is 0,show has mark 2}",
+    "trial: its next 3 turns end with 1",
+    "trial: after them a {count is 1,show has mark 1}",
 ];
 
 /// Every point by its name.

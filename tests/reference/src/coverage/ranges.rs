@@ -3,12 +3,17 @@
 use super::refusals::{length_of_list, sizes, worker_of};
 use crate::case::{self, Case, NAMES};
 use crate::desk::{Counts, MOST_TURNS};
+use crate::memory::BUCKET_WORDS;
 use crate::outcome::{Answer, Outcome};
 use crate::record::{INSERT, LOOK};
-use crate::word::Snapshot;
+use crate::word::{Snapshot, MAP_INSRT, MAP_INVLD, MAP_VALID};
 
 /// The mark word that an insert leaves after eight turns on an opened board.
 const BEING_INSERTED: u64 = 8_589_934_592;
+
+/// The boards that an insert of lot 7 with ticket 1 leaves by its claim, its eighth turn, and by its commit, its eleventh.
+const CLAIMED: [u64; BUCKET_WORDS] = [BEING_INSERTED, 0, 0, 0, 0, 0, 0, 0];
+const COMMITTED: [u64; BUCKET_WORDS] = [4_294_967_297, 7, 0, 0, 1, 0, 0, 0];
 
 pub fn see(case: &Case, outcome: &Outcome, met: &mut Vec<String>) {
     let number = outcome.answer.number();
@@ -50,6 +55,7 @@ fn see_accepted(case: &Case, outcome: &Outcome, met: &mut Vec<String>) {
     if let Answer::Count(Ok(lots)) = outcome.answer {
         see_count(case, lots, met);
     }
+    see_stopped_insert(case, outcome, met);
 }
 
 fn see_lot(case: &Case, n: u64, met: &mut Vec<String>) {
@@ -129,15 +135,49 @@ fn see_spent_ticket(case: &Case, met: &mut Vec<String>) {
 
 fn see_count(case: &Case, lots: u64, met: &mut Vec<String>) {
     met.push(format!("count: {lots} lots"));
-    let mut marks: Vec<u8> = case
-        .board
-        .chunks(8)
-        .flat_map(|bucket| Snapshot::of(bucket[0]).map)
-        .filter(|&mark| mark != 0)
-        .collect();
+    let buckets = case.board.chunks(BUCKET_WORDS);
+    let maps: Vec<[u8; 3]> = buckets.map(|bucket| Snapshot::of(bucket[0]).map).collect();
+    if let [[m0, m1, m2]] = maps[..] {
+        met.push(format!("count: marks {m0}{m1}{m2} in the only bucket"));
+    }
+    see_half_written(&maps, lots, met);
+    if case.board.chunks(BUCKET_WORDS).any(has_lot_twice) {
+        met.push("count: a lot in two valid slots".into());
+    }
+    let mut marks = maps.concat();
+    marks.retain(|&mark| mark != MAP_INVLD);
     marks.dedup();
     if let [mark] = marks[..] {
         met.push(format!("count: mark {mark} alone"));
+    }
+}
+
+/// Two valid slots of the bucket have the same lot.
+fn has_lot_twice(bucket: &[u64]) -> bool {
+    let map = Snapshot::of(bucket[0]).map;
+    let valid = (0..3).filter(|&slot| map[slot] == MAP_VALID);
+    let mut lots: Vec<u64> = valid.map(|slot| bucket[1 + slot]).collect();
+    let slots = lots.len();
+    lots.sort();
+    lots.dedup();
+    lots.len() < slots
+}
+
+/// §2.9: what is counted beside half-written slots, and in which bucket the only one of them stands.
+fn see_half_written(maps: &[[u8; 3]], lots: u64, met: &mut Vec<String>) {
+    let marks = maps.concat();
+    let mut slots: Vec<usize> = (0..marks.len()).collect();
+    slots.retain(|&slot| marks[slot] == MAP_INSRT);
+    met.push(format!("count: {lots} lots beside {} marks 2", slots.len()));
+    let [alone] = slots[..] else {
+        return;
+    };
+    for (bucket, name) in [(0, "0"), (maps.len() - 1, "N-1")] {
+        if alone / 3 == bucket && maps.len() > 1 {
+            met.push(format!(
+                "count: {lots} lots beside a mark 2 in bucket {name}"
+            ));
+        }
     }
 }
 
@@ -229,5 +269,30 @@ fn see_trials(case: &Case, outcome: &Outcome, number: u8, met: &mut Vec<String>)
         && last.ended == Some(0)
     {
         met.push("trial: beside it a look of 6 turns ends with 0".into());
+    }
+    if first.kind == INSERT
+        && case.board == CLAIMED
+        && told.len() == 3
+        && outcome.board == COMMITTED
+        && last.ended == Some(1)
+    {
+        met.push("trial: its next 3 turns end with 1".into());
+    }
+}
+
+/// §10.12, between its turns.
+fn see_stopped_insert(case: &Case, outcome: &Outcome, met: &mut Vec<String>) {
+    let when = match &case.board {
+        board if *board == CLAIMED => "beside it",
+        board if *board == COMMITTED => "after them",
+        _ => return,
+    };
+    match &outcome.answer {
+        Answer::Count(Ok(lots)) => met.push(format!("trial: {when} a count is {lots}")),
+        Answer::Show(Ok((_, part))) if case.lot == 7 => {
+            let mark = Snapshot::of(part[0]).map[0];
+            met.push(format!("trial: {when} a show has mark {mark}"));
+        }
+        _ => (),
     }
 }

@@ -1,23 +1,23 @@
 use borrow.Author.Needs.{needs}
 use native.Mathlib.Omega.{arith}
-use Rattle.mark.specs.Word.{sumMarks}
+use Rattle.mark.specs.Word.{countMarks}
 use Rattle.engine.proofs.lots.in_word.Statement.{statement}
 use Rattle.engine.proofs.lots.in_word.Tie as tie
 
 returns : tie.Need-returns
-unfolding sumMarks
+unfolding countMarks
 returns c =
     let b = c .before .before in
     let a = b .before .before in (
       simp (
-        a .is-taken .ensures .0,
+        a .one-if-valid .ensures .0,
         a .before .mark-of .ensures,
-        b .is-taken2 .ensures .0,
+        b .one-if-valid2 .ensures .0,
         b .before .mark-of2 .ensures,
-        c .is-taken3 .ensures .0,
+        c .one-if-valid3 .ensures .0,
         c .before .mark-of3 .ensures,
       ),
-      omega (arith, a .is-taken .ensures .1, b .is-taken2 .ensures .1, c .is-taken3 .ensures .1),
+      omega (arith, a .one-if-valid .ensures .1, b .one-if-valid2 .ensures .1, c .one-if-valid3 .ensures .1),
     )
 
 pub in-word-spec : {M : Type 1} → statement M
