@@ -6,8 +6,6 @@ use mathlib.Core.List.{List}
 use mathlib.Core.Logic.{_⊎_, inl, inr}
 use native.Mathlib.Omega.{arith}
 use lib.Dec.{eqb}
-use lib.ListN.{set, length-set}
-use lib.Seq.{getD-set-same, getD-set-other}
 use borrow.Author.Tests.{eqb-true, ne-eqb, le-leb}
 use Rattle.mark.specs.Word.{markOf, byte7, setMark, wellFormed}
 use Rattle.mark.proofs.Choices.{by-cases}
@@ -15,13 +13,16 @@ use Rattle.mark.proofs.WellFormed.{well-formed-set, well-formed-bump}
 use Rattle.turn.specs.declared.Worker.{Worker}
 use Rattle.turn.specs.declared.Progress.{Progress}
 use Rattle.turn.specs.declared.Progress.the-variants.{GoesOn, Ended}
+use Rattle.turn.specs.declared.Stepped.{Stepped}
 use Rattle.turn.specs.Worker.{idle, lookFor, insertOf, removeOf, isIdle, ticketFits, wordFits, broken}
-use Rattle.turn.specs.Bucket.{markCell, spareCell}
-use Rattle.turn.specs.Places.{Step, turn}
+use Rattle.turn.specs.Bucket.{cell, markCell, spareCell}
+use Rattle.turn.specs.Places.{turn}
 use Rattle.turn.proofs.Sound.{Sound, Whole, Accepted, sound-not-broken}
 use Rattle.turn.proofs.Works.{Works, looking, inserting, filling, beginning, works-stands, works-held, works-within}
 use Rattle.turn.proofs.Lands.{Lands, reads, goes, loses, answers, claims, commits, frees, closes}
 use Rattle.turn.proofs.Landing.{turn-lands}
+use Rattle.turn.proofs.Cells.{turn-long}
+use Rattle.turn.proofs.Values.{turn-beside, filled}
 
 -- ---- idle records
 
@@ -53,13 +54,17 @@ idle-is w is =
     fields-idle _ _ _ _ _ _ _ _ (zero _ (a .0)) (zero _ (b .0)) (zero _ (c .0)) (zero _ (d .0)) (zero _ (e .0)) (zero _ (f .0))
     (eqb-true _ 3 (g .0)) (zero _ (g .1))
 
+-- a record that is not the idle one does not pass for it
+pub not-idle : (w : Worker) → (w ≡ idle → ⊥) → isIdle w ≡ false
+not-idle w busy = by (isIdle w) refl
+  where
+    by : (t : Bool) → isIdle w ≡ t → t ≡ false
+    by true is = absurd (busy (idle-is w is))
+    by false is = refl
+
 -- a record at a place is busy
 pub busy : (w : Worker) → (w .place ≡ 0 → ⊥) → isIdle w ≡ false
-busy w some = by (isIdle w) (λ is. some (ap (λ (x : Worker). x .place) (idle-is w is)))
-  where
-    by : (t : Bool) → (t ≡ true → ⊥) → t ≡ false
-    by true isnot = absurd (isnot refl)
-    by false isnot = refl
+busy w some = not-idle w (λ is. some (ap (λ (x : Worker). x .place) is))
 
 -- the idle record passes it
 pub is-idle : isIdle idle ≡ true
@@ -120,61 +125,55 @@ module _ (b : List ℕ) (w : Worker) (ok : Accepted b w) where
   marked : (i m : ℕ) → (w .kind ≡ 1 → ⊥) → m ≤ 2 → wellFormed (setMark (w .word) i m) ≡ true
   marked i m other known = well-formed-set (w .word) (read-formed other) i m known
 
-  set-whole : (m : ℕ) → wellFormed m ≡ true → Whole (set b markCell m)
-  set-whole m formed =
-      let eight = ok .whole .eight in
-      record {
-        eight = length-set b markCell m ∙ eight;
-        formed = rw (getD-set-same b markCell m 0 (omega arith)) formed;
-        spare = getD-set-other b markCell spareCell m 0 (omega arith) ∙ ok .whole .spare;
-      }
+  abbrev m : ℕ
+  m = cell b markCell
 
-  lands-whole : {s : Step} → Lands b w s → Whole (s .bucket)
-  lands-whole (reads p place other from fits aims) = ok .whole
-  lands-whole (goes a full p s v c swap none same from fits slot aims) =
-      let old = ok .whole in
-      record { eight = same .long ∙ old .eight; formed = rw (same .mark) (old .formed); spare = same .spare ∙ old .spare }
-  lands-whole (loses swapper missed fits) = ok .whole
-  lands-whole (answers answer held) = ok .whole
-  lands-whole (claims kind place held is) = set-whole _ (marked (w .slot) 2 (omega arith) (omega arith))
-  lands-whole (commits kind place held is) =
-      set-whole _ (rw well-formed-bump (well-formed-set _ (marked (w .held) 2 (omega arith) (omega arith)) (w .held) 1 (omega arith)))
-  lands-whole (frees kind place held) = set-whole _ (well-formed-set _ (ok .whole .formed) (w .held) 0 (omega arith))
-  lands-whole (closes kind place held is) = set-whole _ (marked (w .slot) 0 (omega arith) (omega arith))
+  lands-formed : {n : ℕ} {x : Stepped} → Lands m n w x → wellFormed n ≡ true
+  lands-formed (reads p same place other fits away aims) = rw same (ok .whole .formed)
+  lands-formed (goes a full p s v same swap none from fits away slot aims) = rw same (ok .whole .formed)
+  lands-formed (loses same swapper missed fits) = rw same (ok .whole .formed)
+  lands-formed (answers answer same) = rw same (ok .whole .formed)
+  lands-formed (claims left kind place held is) = rw left (marked (w .slot) 2 (omega arith) (omega arith))
+  lands-formed (commits left kind place held is) =
+      rw (left, well-formed-bump) (well-formed-set _ (marked (w .held) 2 (omega arith) (omega arith)) (w .held) 1 (omega arith))
+  lands-formed (frees left kind place held) = rw left (well-formed-set _ (ok .whole .formed) (w .held) 0 (omega arith))
+  lands-formed (closes left kind place held is) = rw left (marked (w .slot) 0 (omega arith) (omega arith))
 
   -- the bucket that a turn leaves is not broken
   pub turn-whole : Whole (turn b w .bucket)
-  turn-whole = lands-whole (turn-lands b w ok)
+  turn-whole =
+      let spare = turn-beside b w ok spareCell (omega arith) (λ place. let held = filled b w ok (omega arith) (omega arith) .1 in omega arith) in
+      record { eight = turn-long b w ∙ ok .whole .eight; formed = lands-formed (turn-lands b w ok); spare = spare ∙ ok .whole .spare }
 
-  lands-idles : {s : Step} → Lands b w s → Idles (s .stepped .report .progress) (s .stepped .worker)
-  lands-idles (reads p place other from fits aims) = busy _ (omega arith)
-  lands-idles (goes a full p s v c swap none same from fits slot aims) = busy _ (omega (arith, works-within _ _ _ fits))
-  lands-idles (loses swapper missed fits) = busy _ (omega arith)
-  lands-idles (answers answer held) = refl
-  lands-idles (claims kind place held is) = busy _ (omega arith)
-  lands-idles (commits kind place held is) = refl
-  lands-idles (frees kind place held) = refl
-  lands-idles (closes kind place held is) = refl
+  lands-idles : {n : ℕ} {x : Stepped} → Lands m n w x → Idles (x .report .progress) (x .worker)
+  lands-idles (reads p same place other fits away aims) = busy _ (omega (arith, works-within _ _ _ fits))
+  lands-idles (goes a full p s v same swap none from fits away slot aims) = busy _ (omega (arith, works-within _ _ _ fits))
+  lands-idles (loses same swapper missed fits) = busy _ (omega arith)
+  lands-idles (answers answer same) = refl
+  lands-idles (claims left kind place held is) = busy _ (omega arith)
+  lands-idles (commits left kind place held is) = refl
+  lands-idles (frees left kind place held) = refl
+  lands-idles (closes left kind place held is) = refl
 
   -- the record that a turn leaves is idle just where it ends its call
   pub turn-idles : Idles (turn b w .stepped .report .progress) (turn b w .stepped .worker)
   turn-idles = lands-idles (turn-lands b w ok)
 
-  lands-kept : {s : Step} → Lands b w s → Sound (s .stepped .worker) ⊎ (s .stepped .worker ≡ idle)
+  lands-kept : {n : ℕ} {x : Stepped} → Lands m n w x → Sound (x .worker) ⊎ (x .worker ≡ idle)
   unfolding wordFits
-  lands-kept (reads p place other from fits aims) =
+  lands-kept (reads p same place other fits away aims) =
       inl (sound-of _ fits (ok .sound .ticket) (omega arith) (rw (ne-eqb (w .kind) 1 other) (ok .whole .formed)))
-  lands-kept (goes a full p s v c swap none same from fits slot aims) = inl (sound-of _ fits (ok .sound .ticket) slot (ok .sound .word))
-  lands-kept (loses swapper missed fits) = inl (sound-of _ fits (ok .sound .ticket) (ok .sound .slot) (ok .sound .word))
-  lands-kept (answers answer held) = inr refl
-  lands-kept (claims kind place held is) =
+  lands-kept (goes a full p s v same swap none from fits away slot aims) = inl (sound-of _ fits (ok .sound .ticket) slot (ok .sound .word))
+  lands-kept (loses same swapper missed fits) = inl (sound-of _ fits (ok .sound .ticket) (ok .sound .slot) (ok .sound .word))
+  lands-kept (answers answer same) = inr refl
+  lands-kept (claims left kind place held is) =
       let few = ok .sound .slot in
       let other : w .kind ≡ 1 → ⊥ = omega arith in
       inl (sound-of _ (filling kind (omega arith) (omega arith) few) (ok .sound .ticket) few
       (rw (ne-eqb (w .kind) 1 other) (marked (w .slot) 2 other (omega arith))))
-  lands-kept (commits kind place held is) = inr refl
-  lands-kept (frees kind place held) = inr refl
-  lands-kept (closes kind place held is) = inr refl
+  lands-kept (commits left kind place held is) = inr refl
+  lands-kept (frees left kind place held) = inr refl
+  lands-kept (closes left kind place held is) = inr refl
 
   -- the record that a turn leaves is sound, or the idle one
   pub turn-kept : Sound (turn b w .stepped .worker) ⊎ (turn b w .stepped .worker ≡ idle)

@@ -5,9 +5,12 @@ pub mod Landing
 pub mod Lands
 pub mod Numbers
 pub mod OneOutcome
+pub mod Outcome
+pub mod Outcomes
 pub mod Ranges
 pub mod Rows
 pub mod Sound
+pub mod Stays
 pub mod Values
 pub mod Waits
 pub mod Works

@@ -1,5 +1,5 @@
 -- What the tests of a record, of a bucket and of a turn say when they let it through. Assumes nothing.
-use Prim.Native.Nat.{ℕ, _≤_, _<_}
+use Prim.Native.Nat.{ℕ, _≤_}
 use mathlib.Core.Bool.{Bool, true, false, cond, _||_, not, and-eq-true-iff, or-true}
 use mathlib.Core.Path.{_≡_, refl, sym, subst, _∙_}
 use mathlib.Core.List.{List}
@@ -13,7 +13,7 @@ use Rattle.turn.specs.Worker.{isIdle, mayStand, ticketFits, heldFits, wo
 use Rattle.turn.specs.Bucket.{cell, markCell, spareCell, brokenBucket}
 use Rattle.turn.specs.Ready.{Ready}
 use Rattle.turn.specs.Turn.{bucketRefusal, turnRefusal}
-use Rattle.turn.proofs.Works.{Works, looking, inserting, claiming, filling, beginning, removing, works}
+use Rattle.turn.proofs.Works.{Works, works, works-filled}
 
 -- ---- records
 
@@ -124,16 +124,8 @@ pub accepted-works : (b : List ℕ) (w : Worker) → Accepted b w → Works (w .
 accepted-works b w ok = works _ _ _ (ok .sound .stands) (ok .sound .held)
 
 -- an accepted turn has all that the step asks for
-module _ (b : List ℕ) (w : Worker) (ok : Accepted b w) where
-  holds : 7 ≤ w .place → w .place ≤ 10 → Works (w .kind) (w .place) (w .held) → w .held < 3
-  holds from to (looking k l h e) = absurd (omega arith)
-  holds from to (inserting k l h e) = absurd (omega arith)
-  holds from to (claiming k e h) = absurd (omega arith)
-  holds from to (filling k l h e) = omega arith
-  holds from to (beginning k e h) = absurd (omega arith)
-  holds from to (removing k l h e) = absurd (omega arith)
-
-  pub ready : Ready b w
-  ready =
-      let few = ok .sound .slot in
-      record { eight = ok .whole .eight; slot = omega arith; holds = λ from to. holds from to (accepted-works b w ok) }
+pub ready : (b : List ℕ) (w : Worker) → Accepted b w → Ready b w
+ready b w ok =
+    let few = ok .sound .slot in
+    let filled = works-filled _ _ _ (accepted-works b w ok) in
+    record { eight = ok .whole .eight; slot = omega arith; holds = λ from to. let some = filled from to .1 in omega arith }

@@ -116,6 +116,15 @@ module _ (k p h : ℕ) where
   works-within (beginning kind place held) = omega arith
   works-within (removing kind from to held) = omega arith
 
+  -- what works at places 7 to 10 is an insert that holds a slot
+  pub works-filled : Works k p h → 7 ≤ p → p ≤ 10 → (k ≡ 2) × (h ≤ 2)
+  works-filled (looking kind low high held) from to = absurd (omega arith)
+  works-filled (inserting kind low high held) from to = absurd (omega arith)
+  works-filled (claiming kind place held) from to = absurd (omega arith)
+  works-filled (filling kind low high held) from to = (kind, held)
+  works-filled (beginning kind place held) from to = absurd (omega arith)
+  works-filled (removing kind low high held) from to = absurd (omega arith)
+
 -- ---- what is shown of each of n places from lo on
 
 abbrev pub From : (ℕ → Type 0) → ℕ → ℕ → Type 0
