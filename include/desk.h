@@ -196,8 +196,10 @@ desk_outcome desk_start_insert(const uint64_t *board, size_t words, desk_worker 
 desk_outcome desk_start_remove(const uint64_t *board, size_t words, desk_worker *records, size_t listed, desk_floor floor,
     size_t worker, uint64_t lot);
 
-/* Does the next memory action of a worker's call. An insert into a bucket with no empty slot goes round, and reports it by `full` each
-   time, for as long as nobody else removes a lot: whoever gives turns to one worker alone, until the call has ended, looks at that too. */
+/* Does the next memory action of a worker's call. On an opened board a busy worker's turn is never refused, and a look takes 4 to 10 turns,
+   whatever others do. While no other worker has a turn a remove takes 6 at most, and an insert 13, if a slot of its bucket is empty when it
+   starts, or is valid with its lot. Any other insert goes round, and reports it by `full` each time, until somebody else changes that
+   bucket: whoever gives turns to one worker alone, until the call has ended, looks at that too. */
 desk_turn_outcome desk_turn(uint64_t *board, size_t words, desk_worker *records, size_t listed, desk_floor floor, size_t worker);
 
 /* Does `count` turns, each for the worker whose number stands in `turns`, and stops before the first that is refused; those before it

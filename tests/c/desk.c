@@ -281,6 +281,53 @@ static void test_full_round(void) {
     CHECK(same_hall(&one, &two));
 }
 
+/* worker 0, alone, has a run of its most turns: as many are done as its call takes, it is idle then, and a turn more finds it so */
+static void ends_alone(hall *h, unsigned turns, unsigned most) {
+    for (unsigned i = 0; i <= most; i++) many[i] = 0;
+    copy_hall(&two, h);
+    desk_run_outcome within = run(&two, many, most);
+    CHECK(within.totals.turns == turns && within.stop == (turns < most ? DESK_IDLE_WORKER : DESK_DONE));
+    CHECK(two.records[0].kind == DESK_IDLE);
+    desk_run_outcome more = run(h, many, most + 1);
+    CHECK(more.totals.turns == turns && more.stop == DESK_IDLE_WORKER);
+    CHECK(same_hall(h, &two));
+}
+
+/* the longest calls of a worker alone, and the shortest look */
+static void test_lengths(void) {
+    opened(&one, 2, 1, 0);
+    CHECK(start_insert(&one, 1, 5, 1) == DESK_DONE); /* worker 1 sleeps all the time */
+    for (uint32_t ticket = 2; ticket <= 4; ticket++) {
+        CHECK(start_insert(&one, 0, 5 + ticket, ticket) == DESK_DONE);
+        ends_alone(&one, 9 + ticket, 13);
+    }
+    CHECK(start_look(&one, 0, 9) == DESK_DONE);
+    ends_alone(&one, 10, 10);
+    CHECK(start_look(&one, 0, 7) == DESK_DONE);
+    ends_alone(&one, 4, 10);
+    CHECK(start_remove(&one, 0, 9) == DESK_DONE);
+    ends_alone(&one, 6, 6);
+}
+
+/* the same beside a sleeper that holds a slot; a lot that is found; and where no slot is left, an insert that goes on as long as a run may */
+static void test_lengths_beside_a_holder(void) {
+    opened(&one, 2, 1, 0);
+    CHECK(start_insert(&one, 1, 5, 1) == DESK_DONE);
+    for (unsigned i = 0; i < 8; i++) CHECK(turn(&one, 1).refusal == DESK_DONE);
+    CHECK(one.records[1].held == 0);
+    CHECK(start_insert(&one, 0, 7, 2) == DESK_DONE);
+    ends_alone(&one, 11, 13);
+    CHECK(start_insert(&one, 0, 8, 3) == DESK_DONE);
+    ends_alone(&one, 12, 13);
+    CHECK(start_insert(&one, 0, 8, 4) == DESK_DONE);
+    ends_alone(&one, 10, 13);
+    CHECK(counted(&one) == 2);
+    CHECK(start_insert(&one, 0, 9, 5) == DESK_DONE);
+    for (unsigned i = 0; i < 65535; i++) many[i] = 0;
+    CHECK(counts(run(&one, many, 65535), 65535, 0, 0, 65535 / 9, DESK_DONE));
+    CHECK(one.records[0].kind == DESK_INSERT);
+}
+
 int main(void) {
     test_layout();
     test_sleeper();
@@ -290,6 +337,8 @@ int main(void) {
     test_screen();
     test_refusals();
     test_full_round();
+    test_lengths();
+    test_lengths_beside_a_holder();
     printf("%u checks, %u wrong\n", checks, wrong);
     return wrong != 0;
 }

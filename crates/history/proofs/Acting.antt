@@ -75,12 +75,12 @@ module _ (s : State) (i : ℕ) where
   entry = record { worker = i; bucket = b; was = w; report = does .stepped .report }
 
   -- where it is not refused, there is a record for each worker
-  pub listed : number ≡ 0 → length (s .records) ≡ s .floor .workers
+  listed : number ≡ 0 → length (s .records) ≡ s .floor .workers
   unfolding turnNumber
   listed none = right-listed (s .floor) (s .board) _ (passes (wrongSizes (s .floor) (s .board) _) 0 _ none .0)
 
-  -- and it is done
-  done-acts : number ≡ 0 → Acts (s .floor .buckets) (view s) entry (does .stepped .worker) (view (turnedAs s i done))
+  -- and it is done: it acts on what demand 3 goes by
+  pub done-acts : number ≡ 0 → Acts (s .floor .buckets) (view s) entry (does .stepped .worker) (view (turnedAs s i done))
   done-acts none =
       let known = turn-accepted (s .floor) (s .board) (length (s .records)) i w none in
       let ok = known .1 in

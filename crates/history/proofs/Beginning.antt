@@ -14,9 +14,10 @@ use Rattle.turn.proofs.Lands.{elsewhere}
 use Rattle.engine.specs.Calls.{blank}
 use Rattle.history.specs.Trace.{total}
 use Rattle.history.specs.History.{State, Opening, Call, opened, workersOf, state, trace, inserts, removes}
+use Rattle.history.specs.Cells.{Holds}
 use Rattle.history.proofs.Sums.{total-none}
 use Rattle.history.proofs.View.{worker, inserting, left, Aware}
-use Rattle.history.proofs.Held.{Holds, Kept}
+use Rattle.history.proofs.Held.{Kept}
 use Rattle.history.proofs.Versions.{Tells}
 use Rattle.history.proofs.Charges.{stale}
 use Rattle.history.proofs.Counts.{onto}
@@ -37,11 +38,12 @@ empty-tells v b fits = record { commits = omega arith; valid = rw (no-mark v fit
 
 module _ (o : Opening) where
   -- a worker that is at no call
-  record Rests (w : Worker) : Type 0 where
-    kind : w .kind ≡ 0
-    place : w .place ≡ 0
+  pub record Rests (w : Worker) : Type 0 where
+    pub kind : w .kind ≡ 0
+    pub place : w .place ≡ 0
 
-  rests : (i : ℕ) → Rests (worker (view (opened o)) i)
+  -- an opening leaves every worker at no call
+  pub rests : (i : ℕ) → Rests (worker (view (opened o)) i)
   rests i = by (opened-idle o i)
     where
       by : (worker (view (opened o)) i ≡ idle) ⊎ (worker (view (opened o)) i ≡ blank) → Rests (worker (view (opened o)) i)
@@ -52,7 +54,8 @@ module _ (o : Opening) where
   pub opened-unaware : (i : ℕ) → Aware (worker (view (opened o)) i) → ⊥
   opened-unaware i aware = omega (arith, rests i .place, aware .from)
 
-  holds-none : (i : ℕ) → Holds (worker (view (opened o)) i) → ⊥
+  -- an opening leaves no worker that holds a slot
+  pub holds-none : (i : ℕ) → Holds (worker (view (opened o)) i) → ⊥
   holds-none i holds = omega (arith, rests i .kind, holds .0)
 
   kept : Kept (o .plan .buckets) (view (opened o))

@@ -15,10 +15,11 @@ use Rattle.turn.proofs.Effects.{SameCall, Moves, reads, goes, again, answers, c
 use Rattle.engine.specs.Board.{bucketOf}
 use Rattle.history.specs.Trace.{Entry}
 use Rattle.history.specs.Counts.{lost?, oneIf}
+use Rattle.history.specs.Cells.{home}
 use Rattle.history.proofs.View.{View, worker, inserting, left, Aware, swapper-aware, Acts, quiet-marks}
 use Rattle.history.proofs.Lawful.{committed, changed}
 use Rattle.history.proofs.Counts.{lossOf, changeOf}
-use Rattle.history.proofs.Held.{home, Kept}
+use Rattle.history.proofs.Held.{Kept}
 use Rattle.history.proofs.Minds.{Minds, renews, keeps, forgets, act-expects}
 
 -- ---- a call's changes are paid for by its start

@@ -21,6 +21,11 @@ cut-later P e es c =
       holds = c .holds;
     }
 
+-- an empty trace is cut nowhere
+pub no-cut : (older : List Entry) (e : Entry) (newer : List Entry) → [] ≡ older ++ (e ∷ newer) → ⊥
+no-cut [] e newer cut = nil≢cons cut
+no-cut (o ∷ older) e newer cut = nil≢cons cut
+
 module _ (P : Entry → Type 0) where
   -- the first one
   pub some-here : (e : Entry) (es : List Entry) → P e → Some P (e ∷ es)
@@ -32,11 +37,7 @@ module _ (P : Entry → Type 0) where
 
   -- an empty trace has none
   pub none-nil : None P []
-  none-nil some = by (some .older) (some .cut)
-    where
-      by : (older : List Entry) → [] ≡ older ++ (some .entry ∷ some .newer) → ⊥
-      by [] cut = nil≢cons cut
-      by (o ∷ older) cut = nil≢cons cut
+  none-nil some = no-cut (some .older) (some .entry) (some .newer) (some .cut)
 
   module _ (e : Entry) (es : List Entry) where
     first-or-later : Some P (e ∷ es) → P e ⊎ Some P es
@@ -54,6 +55,12 @@ module _ (P : Entry → Type 0) where
         by : P e ⊎ Some P es → ⊥
         by (inl first) = not-first first
         by (inr later) = not-later later
+
+  -- two traces with none have none together
+  pub none-append : (es fs : List Entry) → None P es → None P fs → None P (es ++ fs)
+  none-append [] fs none more = more
+  none-append (e ∷ es) fs none more =
+      none-more e (es ++ fs) (λ holds. none (some-here e es holds)) (none-append es fs (λ some. none (some-later e es some)) more)
 
   -- where each entry is tested, so is the trace
   pub some-or-none : ((e : Entry) → P e ⊎ (P e → ⊥)) → (es : List Entry) → Some P es ⊎ None P es

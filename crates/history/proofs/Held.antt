@@ -14,12 +14,9 @@ use Rattle.turn.specs.Effects.{Effect, none, effectOn}
 use Rattle.turn.proofs.Effects.{Aimed, SameCall, Moves, reads, goes, again, answers, claims, commits, frees, closes}
 use Rattle.engine.specs.Board.{bucketOf}
 use Rattle.history.specs.Trace.{Entry}
+use Rattle.history.specs.Cells.{home, Holds}
 use Rattle.history.proofs.View.{View, worker, Starts, Acts, each-worker}
 use Rattle.history.proofs.Lawful.{Lawful, Spares, spared}
-
--- an insert that holds a slot
-abbrev pub Holds : Worker → Type 0
-Holds w = (w .kind ≡ 2) × (w .held ≤ 2)
 
 -- its slot has mark 2 in its bucket's mark word m, and past place 1 in its own word
 pub record Sure (m : ℕ) (w : Worker) : Type 0 where
@@ -27,18 +24,14 @@ pub record Sure (m : ℕ) (w : Worker) : Type 0 where
   pub word : 2 ≤ w .place → markOf (w .word) (w .held) ≡ 2
 
 module _ (n : ℕ) where
-  -- the bucket of a worker's lot
-  abbrev pub home : Worker → ℕ
-  home w = bucketOf (w .key) n
-
   -- two workers that hold a slot of one bucket each hold different ones
   abbrev pub Apart : Worker → Worker → Type 0
-  Apart w v = Holds w → Holds v → home w ≡ home v → (w .held ≡ v .held → ⊥)
+  Apart w v = Holds w → Holds v → home n w ≡ home n v → (w .held ≡ v .held → ⊥)
 
   -- what holds of every worker's slot, word and aim
   pub record Kept (s : View) : Type 0 where
     pub aimed : (i : ℕ) → Aimed (worker s i)
-    pub sure : (i : ℕ) → Holds (worker s i) → Sure (s .marks (home (worker s i))) (worker s i)
+    pub sure : (i : ℕ) → Holds (worker s i) → Sure (s .marks (home n (worker s i))) (worker s i)
     pub apart : (i j : ℕ) → (i ≡ j → ⊥) → Apart (worker s i) (worker s j)
 
 -- ---- the worker whose turn it is

@@ -6,6 +6,8 @@ pub mod Unbroken
 pub mod Unrefused
 pub mod Lots
 pub mod SameSizes
+pub mod HowLong
+pub mod Figures
 pub mod Reached
 pub mod ValuesReached
 -- what a history is
@@ -32,9 +34,22 @@ pub mod Remembers
 pub mod Swaps
 -- tickets and values
 pub mod Steps
+pub mod Account
 pub mod Spent
 pub mod Written
 pub mod Later
+-- how long a call takes
+pub mod Looking
+pub mod Numbered
+pub mod InCalls
+pub mod Looks
+pub mod Alone
+pub mod Removing
+pub mod Searching
+pub mod Inserting
+pub mod Circling
+-- cells of held and of valid slots
+pub mod Cells
 -- tools
 pub mod Lawful
 pub mod Counts

@@ -1,24 +1,21 @@
 -- Tickets rise, and so no value comes back: for every opening and every list of calls, with no other premise. Assumes nothing.
-use Prim.Native.Nat.{ℕ, zero, suc, _*_, _≤_, _<_}
+use Prim.Native.Nat.{ℕ, zero, suc, _<_}
 use mathlib.Core.List.{List, [], _∷_, _++_, append-assoc}
 use mathlib.Core.Logic.{_⊎_, inl, inr}
 use mathlib.Core.Path.{_≡_, refl, sym, ap, subst, _∙_}
-use native.Mathlib.Decide.{decLe}
 use native.Mathlib.Omega.{arith}
-use lib.ListN.{drop-of-length-le, List·getD-eq-default}
-use Rattle.turn.specs.declared.Worker.{Worker}
-use Rattle.turn.specs.Worker.{insertKind, idle}
+use lib.ListN.{List·getD-eq-default}
+use Rattle.turn.specs.Worker.{insertKind}
 use Rattle.turn.specs.Bucket.{cell, valueCell}
 use Rattle.engine.specs.Board.{bucketAt, emptyBucket, openedBoard}
-use Rattle.engine.specs.Calls.{blank}
-use Rattle.engine.proofs.Buckets.{length-opened}
 use Rattle.history.specs.Trace.{Entry, Some}
 use Rattle.history.specs.History.{State, Opening, Call, opened, recordOf, stateFrom, traceFrom, state, trace}
 use Rattle.history.specs.Numbers.{OneOf, Rising}
 use Rattle.history.specs.Values.{valueAt, Stores, StoresTicket, tickets, NoValueComesBack}
-use Rattle.history.proofs.Cuts.{none-nil}
+use Rattle.history.proofs.Cuts.{no-cut, none-nil}
 use Rattle.history.proofs.Histories.{stateFrom-append, traceFrom-append}
-use Rattle.history.proofs.Opened.{opened-is, opened-idle, opened-bucket}
+use Rattle.history.proofs.Opened.{opened-is, opened-or-none}
+use Rattle.history.proofs.Beginning.{rests}
 use Rattle.history.proofs.Later.{some-front}
 use Rattle.history.proofs.Steps.{calls-last}
 use Rattle.history.proofs.Spent.{Spent, spent-lasts}
@@ -34,38 +31,34 @@ empty-value v (suc (suc zero)) = refl
 empty-value v (suc (suc (suc zero))) = refl
 empty-value v (suc (suc (suc (suc p)))) = List·getD-eq-default (emptyBucket v) 0 {n = valueCell (suc (suc (suc (suc p))))} (omega arith)
 
-module _ (n v : ℕ) where
-  board-value : (b p : ℕ) → Dec (n ≤ b) → cell (bucketAt (openedBoard n v) b) (valueCell p) ≡ 0
-  board-value b p (yes past) = rw (drop-of-length-le (openedBoard n v) {i = 8 * b} (omega (arith, length-opened v n)))
-  board-value b p (no under) = rw (opened-bucket n v b (omega arith)) (empty-value v p)
+board-value : (n v b p : ℕ) → cell (bucketAt (openedBoard n v) b) (valueCell p) ≡ 0
+board-value n v b p = by (opened-or-none n v b)
+  where
+    by : (bucketAt (openedBoard n v) b ≡ emptyBucket v) ⊎ (bucketAt (openedBoard n v) b ≡ []) → cell (bucketAt (openedBoard n v) b) (valueCell p) ≡ 0
+    by (inl is) = rw is (empty-value v p)
+    by (inr is) = rw is
 
 module _ (o : Opening) where
   -- an opening leaves 0 as every value
   opened-value : (b p : ℕ) → valueAt (opened o) b p ≡ 0
   opened-value b p =
       ap (λ (s : State). valueAt s b p) (opened-is o)
-      ∙ board-value (o .plan .buckets) (o .plan .version) b p (decLe (o .plan .buckets) b)
+      ∙ board-value (o .plan .buckets) (o .plan .version) b p
 
   -- and no insert under way
   opened-no-insert : (i : ℕ) → recordOf (opened o) i .kind ≡ insertKind → ⊥
-  opened-no-insert i insert = by (opened-idle o i)
-    where
-      by : (recordOf (opened o) i ≡ idle) ⊎ (recordOf (opened o) i ≡ blank) → ⊥
-      by (inl is) = omega (arith, insert, ap (λ (w : Worker). w .kind) is)
-      by (inr is) = omega (arith, insert, ap (λ (w : Worker). w .kind) is)
+  opened-no-insert i insert = omega (arith, insert, rests o i .kind)
 
   opened-spent : Spent (opened o) [] []
   opened-spent =
-      let nowhere : (before : List Entry) (e : Entry) (later : List Entry) → [] ≡ before ++ (e ∷ later) → ⊥ =
-      λ before e later cut. none-nil (λ x. Unit {0}) (record { older = before; entry = e; newer = later; cut = cut; holds = tt }) in
       record {
         rising = tt;
         most = λ t there. absurd there;
         accepted = λ i insert. absurd (opened-no-insert i insert);
         differ = λ i j other first second same. opened-no-insert i first;
         waits = λ i waits. none-nil _;
-        stored = λ before e later cut stores. absurd (nowhere before e later cut);
-        once = λ before e later cut stores. absurd (nowhere before e later cut);
+        stored = λ before e later cut stores. absurd (no-cut before e later cut);
+        once = λ before e later cut stores. absurd (no-cut before e later cut);
       }
 
   -- ---- histories

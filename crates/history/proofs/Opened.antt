@@ -1,12 +1,12 @@
 -- What an accepted opening leaves, and that there is one for any number of workers and buckets in range. Assumes nothing.
 use Prim.Native.Nat.{ℕ, zero, suc, _+_, _*_, _^_, _≤_, _<_}
 use mathlib.Core.Bool.{false}
-use mathlib.Core.List.{_++_}
+use mathlib.Core.List.{[], _++_}
 use mathlib.Core.Logic.{_⊎_, inl, inr}
 use mathlib.Core.Path.{_≡_, refl, ap, _∙_}
 use native.Mathlib.Decide.{decLe}
 use native.Mathlib.Omega.{arith}
-use lib.ListN.{length, replicate, length-replicate, getD-replicate, List·getD-eq-default}
+use lib.ListN.{length, replicate, drop-of-length-le, length-replicate, getD-replicate, List·getD-eq-default}
 use lib.Seq.{drop-drop}
 use borrow.Author.Tests.{eq-eqb}
 use Rattle.mark.proofs.Choices.{passes}
@@ -16,6 +16,7 @@ use Rattle.engine.specs.Board.{bucketAt, emptyBucket, openedBoard}
 use Rattle.engine.specs.Refusals.{wrongSizes, openNumber}
 use Rattle.engine.specs.Calls.{planned, openCall, blank, recordIn}
 use Rattle.engine.specs.Room.{Right}
+use Rattle.engine.proofs.Buckets.{length-opened}
 use Rattle.engine.proofs.Sizes.{right-sizes, right-listed, opens-right}
 use Rattle.history.specs.History.{State, Opening, opened}
 use Rattle.history.proofs.View.{worker}
@@ -67,6 +68,14 @@ opened-bucket (suc n) v zero under = refl
 opened-bucket (suc n) v (suc b) under =
     let more : 8 * suc b ≡ 8 + 8 * b = omega arith in
     rw (more, ← drop-drop (8 * b) 8 (emptyBucket v ++ openedBoard n v)) (opened-bucket n v b (omega arith))
+
+-- a bucket of an opened board is the empty one, or past the last one it has no word
+pub opened-or-none : (n v b : ℕ) → (bucketAt (openedBoard n v) b ≡ emptyBucket v) ⊎ (bucketAt (openedBoard n v) b ≡ [])
+opened-or-none n v b = by (decLe n b)
+  where
+    by : Dec (n ≤ b) → (bucketAt (openedBoard n v) b ≡ emptyBucket v) ⊎ (bucketAt (openedBoard n v) b ≡ [])
+    by (yes past) = inr (rw (drop-of-length-le (openedBoard n v) {i = 8 * b} (omega (arith, length-opened v n))))
+    by (no under) = inl (opened-bucket n v b (omega arith))
 
 -- ---- the plans that have one
 

@@ -14,6 +14,7 @@ use Rattle.engine.specs.Calls.{planned}
 use Rattle.engine.proofs.Sizes.{right-sizes, right-listed, opens-right}
 use Rattle.engine.proofs.Refused.{open-refused}
 use Rattle.history.specs.Trace.{Entry}
+use Rattle.history.specs.Cells.{Cells}
 use Rattle.history.specs.Unbroken.{Unbroken}
 use Rattle.history.specs.History.{State, Opening, Call, opened, openedAs, state, stateFrom, traceFrom}
 use Rattle.history.specs.Openings.{Asked, asks, opens, reopenNumber, leaves, turnsBy, leavesAll, turnsByAll}
@@ -23,6 +24,8 @@ use Rattle.history.proofs.DemandThree.{demand-three}
 use Rattle.history.proofs.SameSizes.{state-workers, state-buckets}
 use Rattle.history.proofs.NoValueComesBack.{no-value-comes-back}
 use Rattle.history.proofs.Lots.{count-tells}
+use Rattle.history.proofs.HowLong.{how-long}
+use Rattle.history.proofs.Cells.{state-cells}
 use Rattle.history.proofs.Unbroken.{state-unbroken}
 
 -- an opening that is refused leaves everything as it was
@@ -89,6 +92,8 @@ any-order o asked =
       demand = demand-three (h .opening) (h .calls);
       values = no-value-comes-back (h .opening) (h .calls);
       counted = count-tells (h .opening) (h .calls);
+      lasting = how-long (h .opening) (h .calls);
+      cells = subst Cells (sym (all .stands)) (state-cells (h .opening) (h .calls));
       unbroken = subst Unbroken (sym (all .stands)) (state-unbroken (h .opening) (h .calls));
     }
 

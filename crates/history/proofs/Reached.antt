@@ -42,6 +42,11 @@ lent workers accepted =
       version-fits = omega arith;
     }
 
+-- a floor of one worker
+unfoldable pub oneWorker : Opening
+unfolding Refusals.openNumber Refusals.wrongSizes
+oneWorker = lent 1 refl
+
 -- the floor of P6
 unfoldable pub twoWorkers : Opening
 unfolding Refusals.openNumber Refusals.wrongSizes
@@ -63,7 +68,7 @@ repeatedTrace = trace threeWorkers repeatedWord
 -- all that these traces are computed by: what unfolds this unfolds it
 unfoldable pub computed : Unit {0}
 unfolding
-    ℕ-discrete Dec·and twoWorkers threeWorkers stateFrom traceFrom sumFrom turnEntries total cut-later cut-by-number found moment-found
+    ℕ-discrete Dec·and oneWorker twoWorkers threeWorkers stateFrom traceFrom sumFrom turnEntries total cut-later cut-by-number found moment-found
     Calls.openCall Calls.startCall Calls.turned Calls.turnCall Calls.runFrom Calls.runCall
     Refusals.wrongFloor Refusals.wrongSizes
     Refusals.openNumber Refusals.startNumber Refusals.eachNumber Refusals.turnNumber Refusals.runNumber

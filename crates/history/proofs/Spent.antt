@@ -106,15 +106,15 @@ module _ {s t : State} {v : Worker} {spent : List ℕ} (past : List Entry) (ts :
 
   start-spent : Spent t past us
   start-spent =
-      let i = start .who in
-      let every = each s t i v (start .records) (start .within) in
+      let i = start .starts .who in
+      let every = each s t i v (start .starts .records) (start .starts .within) in
       record {
         rising = grown .rising;
         most = grown .most;
         accepted =
             every (λ (j : ℕ) (w : Worker). Inserts w → OneOf us (w .ticket)) (grown .own) (λ j other insert. grown .more _ (old .accepted j insert));
         differ =
-            each-differ s t i v (start .records) (start .within)
+            each-differ s t i v (start .starts .records) (start .starts .within)
             (λ j other first second same. fresh first (subst (λ (n : ℕ). OneOf ts n) (sym same) (old .accepted j second))) (old .differ);
         waits =
             every (λ (j : ℕ) (w : Worker). Waits w → None (StoresTicket (w .ticket)) past)
@@ -142,13 +142,13 @@ module _ {s t : State} {e : Entry} (past : List Entry) (ts : List ℕ) (act : Tu
 
   -- what was known of the worker's record
   accepted-was : Inserts w → OneOf ts (w .ticket)
-  accepted-was = rw (act .was) (old .accepted i)
+  accepted-was = rw (act .acts .was) (old .accepted i)
 
   waits-was : Waits w → None (StoresTicket (w .ticket)) past
-  waits-was = rw (act .was) (old .waits i)
+  waits-was = rw (act .acts .was) (old .waits i)
 
   differ-was : (j : ℕ) → (j ≡ i → ⊥) → Differ w (recordOf s j)
-  differ-was j other = rw (act .was) (old .differ i j (λ is. other (sym is)))
+  differ-was j other = rw (act .acts .was) (old .differ i j (λ is. other (sym is)))
 
   insert-was : Inserts v → Inserts w
   insert-was insert = turn-insert _ w (act .ok) insert .0
@@ -186,15 +186,15 @@ module _ {s t : State} {e : Entry} (past : List Entry) (ts : List ℕ) (act : Tu
 
   turn-spent : Spent t now ts
   turn-spent =
-      let every = each s t i v (act .records) (act .within) in
+      let every = each s t i v (act .acts .records) (act .acts .within) in
       record {
         rising = old .rising;
-        most = rw (act .last) (old .most);
+        most = rw (act .acts .last) (old .most);
         accepted =
             every (λ (j : ℕ) (x : Worker). Inserts x → OneOf ts (x .ticket))
             (λ insert. rw (same-ticket insert) (accepted-was (insert-was insert))) (λ j other. old .accepted j);
         differ =
-            each-differ s t i v (act .records) (act .within)
+            each-differ s t i v (act .acts .records) (act .acts .within)
             (λ j other first second same. differ-was j other (insert-was first) second (sym (same-ticket first) ∙ same)) (old .differ);
         waits = every (λ (j : ℕ) (x : Worker). Waits x → None (StoresTicket (x .ticket)) now) mine-waits others-wait;
         stored = λ before d later cut. stored-then before d (cut-last e d later past before cut);

@@ -109,7 +109,8 @@ module _ (s : State) (i : ℕ) {late : Bool} {v : Worker} {g : Floor} (fresh : F
   abbrev refused : Started
   refused = record { refusal = number; floor = s .floor; worker = recordOf s i }
 
-  accepted-starts : number ≡ 0 → Starts (view s) v (view (startedAs s i taken))
+  -- an accepted start puts its record there
+  pub accepted-starts : number ≡ 0 → Starts (view s) v (view (startedAs s i taken))
   accepted-starts none =
       let known = not-refused (s .floor) (s .board) (length (s .records)) i (recordOf s i) late none in
       record {

@@ -6,7 +6,7 @@ use mathlib.Core.List.{List, [], _∷_, _++_, map, append-assoc, append-nil}
 use mathlib.Core.Path.{_≡_, refl, sym, subst}
 use native.Mathlib.Omega.{arith}
 use lib.Dec.{eqb}
-use lib.ListN.{length, set, take}
+use lib.ListN.{length, take}
 use lib.Seq.{set-getD}
 use borrow.Author.Tests.{eqb-true, leb-false}
 use Rattle.mark.proofs.Choices.{by-cases}
@@ -27,8 +27,10 @@ use Rattle.history.specs.Trace.{Entry}
 use Rattle.history.specs.History.{State, Call, look, insert, remove, turn, run, show, count, recordOf, seatOf, runOf}
 use Rattle.history.specs.History.{startedAs, turnedAs, after, entryOf, turnEntry, entries, stateFrom, traceFrom}
 use Rattle.history.specs.Values.{spentBy, ticketsFrom}
-use Rattle.history.proofs.Starting.{not-refused}
-use Rattle.history.proofs.Acting.{number, done, entry, listed}
+use Rattle.history.proofs.View.{Starts, Acts}
+use Rattle.history.proofs.States.{view}
+use Rattle.history.proofs.Starting.{Fresh, look-fresh, insert-fresh, remove-fresh, not-refused, accepted-starts}
+use Rattle.history.proofs.Acting.{number, done, entry, done-acts}
 use Rattle.history.proofs.Runs.{run-state, run-trace}
 
 -- ---- a start
@@ -38,12 +40,18 @@ pub data Spends (last : ℕ) (v : Worker) (spent : List ℕ) (new : ℕ) : Type 
   unticketed : (v .kind ≡ insertKind → ⊥) → spent ≡ [] → new ≡ last → Spends last v spent new
   ticketed : last < v .ticket → spent ≡ v .ticket ∷ [] → new ≡ v .ticket → Spends last v spent new
 
+-- the records that a start leaves
+pub data StartOf : Worker → Type 0 where
+  of-look : (lot : ℕ) → StartOf (lookFor lot)
+  of-insert : (lot t : ℕ) → StartOf (insertOf lot t)
+  of-remove : (lot : ℕ) → StartOf (removeOf lot)
+
 -- an accepted start: a worker's record becomes v, and these tickets are spent
 pub record Begins (s : State) (v : Worker) (spent : List ℕ) (t : State) : Type 0 where
-  pub who : ℕ
-  pub within : who < length (s .records)
-  pub records : t .records ≡ set (s .records) who v
+  pub starts : Starts (view s) v (view t)
+  pub kind : StartOf v
   pub board : t .board ≡ s .board
+  pub buckets : t .floor .buckets ≡ s .floor .buckets
   pub spends : Spends (s .floor .last) v spent (t .floor .last)
 
 -- ---- a turn
@@ -55,26 +63,17 @@ stepOf s e = Places.turn (bucketAt (s .board) (e .bucket)) (e .was)
 -- a turn that is done
 pub record Turns (s : State) (e : Entry) (t : State) : Type 0 where
   pub ok : Accepted (bucketAt (s .board) (e .bucket)) (e .was)
-  pub within : e .worker < length (s .records)
-  pub was : e .was ≡ recordOf s (e .worker)
+  pub acts : Acts (s .floor .buckets) (view s) e (stepOf s e .stepped .worker) (view t)
   pub report : e .report ≡ stepOf s e .stepped .report
-  pub records : t .records ≡ set (s .records) (e .worker) (stepOf s e .stepped .worker)
   pub board : t .board ≡ withBucket (s .board) (e .bucket) (stepOf s e .bucket)
-  pub last : t .floor .last ≡ s .floor .last
+  pub buckets : t .floor .buckets ≡ s .floor .buckets
 
 module _ (s : State) (i : ℕ) where
-  done-turns : number s i ≡ 0 → Turns s (entry s i) (turnedAs s i (done s i))
+  -- a turn that is not refused is done
+  pub done-turns : number s i ≡ 0 → Turns s (entry s i) (turnedAs s i (done s i))
   done-turns none =
       let known = turn-accepted (s .floor) (s .board) (length (s .records)) i (recordOf s i) none in
-      record {
-        ok = known .1;
-        within = omega (arith, listed s i none, known .2);
-        was = refl;
-        report = refl;
-        records = refl;
-        board = refl;
-        last = refl;
-      }
+      record { ok = known .1; acts = done-acts s i none; report = refl; board = refl; buckets = refl }
 
   -- what holds of a turn that is done, and of nothing done, holds of every turn
   pub by-turn :
@@ -103,32 +102,37 @@ module _ (P : State → List Entry → List ℕ → Type 0) where
   module _ (lasts : Lasts) where
     start-lasts :
         (s : State) (i : ℕ) (late : Bool) (v : Worker) (g : Floor) (spent : List ℕ)
+        → Fresh (s .floor) late v g
+        → StartOf v
+        → g .buckets ≡ s .floor .buckets
         → (late ≡ false → Spends (s .floor .last) v spent (g .last))
         → (past : List Entry) (ts : List ℕ)
         → P s past ts
         → let x = startCall (s .board) (seatOf s i) (recordOf s i) late v g in
         P (startedAs s i x) past (ts ++ cond (eqb (x .refusal) 0) spent [])
     unfolding startCall
-    start-lasts s i late v g spent spends past ts h =
+    start-lasts s i late v g spent fresh kind same spends past ts h =
         let refusal = startNumber (s .floor) (s .board) (length (s .records)) i (recordOf s i) late in
         by-cases (λ (x : Started). P (startedAs s i x) past (ts ++ cond (eqb (x .refusal) 0) spent [])) (eqb refusal 0) _ _
         (λ is.
-        let known = not-refused (s .floor) (s .board) (length (s .records)) i (recordOf s i) late (eqb-true _ 0 is) in
-        lasts .begins past ts
-        (record { who = i; within = known .within; records = refl; board = refl; spends = spends (known .early) }) h)
+        let none = eqb-true _ 0 is in
+        let early = not-refused (s .floor) (s .board) (length (s .records)) i (recordOf s i) late none .early in
+        lasts .begins past ts (record { starts = accepted-starts s i fresh none; kind = kind; board = refl; buckets = same; spends = spends early }) h)
         (λ isnot. rw (isnot, append-nil ts, set-getD (s .records) i blank) h)
 
     -- a start without a ticket
     plain-lasts :
         (s : State) (i : ℕ) (v : Worker)
+        → Fresh (s .floor) false v (s .floor)
+        → StartOf v
         → (v .kind ≡ insertKind → ⊥)
         → (past : List Entry) (ts : List ℕ)
         → P s past ts
         → P (startedAs s i (startCall (s .board) (seatOf s i) (recordOf s i) false v (s .floor))) past (ts ++ [])
-    plain-lasts s i v other past ts h =
+    plain-lasts s i v fresh kind other past ts h =
         let x = startCall (s .board) (seatOf s i) (recordOf s i) false v (s .floor) in
         subst (λ (us : List ℕ). P (startedAs s i x) past (ts ++ us)) (nothing (eqb (x .refusal) 0))
-        (start-lasts s i false v (s .floor) [] (λ is. unticketed other refl refl) past ts h)
+        (start-lasts s i false v (s .floor) [] fresh kind refl (λ is. unticketed other refl refl) past ts h)
       where
         nothing : (t : Bool) → cond {A = List ℕ} t [] [] ≡ []
         nothing true = refl
@@ -154,11 +158,12 @@ module _ (P : State → List Entry → List ℕ → Type 0) where
         (rw (run-trace s turns) (turns-last (take (runOf s turns .handed .totals .turns) turns) s past ts h))
 
     call-lasts : (s : State) (c : Call) (past : List Entry) (ts : List ℕ) → P s past ts → P (after s c) (past ++ entries s c) (ts ++ spentBy s c)
-    call-lasts s (look i lot) past ts h = rw (append-nil past) (plain-lasts s i (lookFor lot) (omega arith) past ts h)
+    call-lasts s (look i lot) past ts h = rw (append-nil past) (plain-lasts s i (lookFor lot) (look-fresh (s .floor) lot) (of-look lot) (omega arith) past ts h)
     call-lasts s (insert i lot t) past ts h =
         rw (append-nil past) (start-lasts s i (spent (s .floor) (t .number)) (insertOf lot (t .number)) (spending (s .floor) (t .number)) (t .number ∷ [])
+        (insert-fresh (s .floor) lot (t .number) (t .fits)) (of-insert lot (t .number)) refl
         (λ early. ticketed (leb-false (t .number) (s .floor .last) early) refl refl) past ts h)
-    call-lasts s (remove i lot) past ts h = rw (append-nil past) (plain-lasts s i (removeOf lot) (omega arith) past ts h)
+    call-lasts s (remove i lot) past ts h = rw (append-nil past) (plain-lasts s i (removeOf lot) (remove-fresh (s .floor) lot) (of-remove lot) (omega arith) past ts h)
     call-lasts s (turn i) past ts h = rw (append-nil ts) (turn-lasts s i past ts h)
     call-lasts s (run turns) past ts h = rw (append-nil ts) (run-lasts s turns past ts h)
     call-lasts s (show lot) past ts h = rw (append-nil past, append-nil ts) h

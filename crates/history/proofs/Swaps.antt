@@ -13,10 +13,10 @@ use Rattle.engine.specs.Board.{bucketOf}
 use Rattle.history.specs.Trace.{Entry, Wins, Loses, Swaps, Commits, Closes, Changes, Some, None, total}
 use Rattle.history.specs.Counts.{isChange, isCommit, isClose}
 use Rattle.history.specs.Moment.{Own, IsMoment, HasMoment, ChangedByAnother, CommittedOrClosedByAnother}
+use Rattle.history.specs.Cells.{home}
 use Rattle.history.proofs.View.{View, worker, Aware, swapper-aware, Acts, quiet-marks, Walk, stays, starts, acts, new-record}
 use Rattle.history.proofs.Counts.{one-yes, one-or-none, changeOf, commitOf, closeOf}
 use Rattle.history.proofs.Counts.{inBucket, in-bucket, in-bucket-le, onto, total-onto}
-use Rattle.history.proofs.Held.{home}
 use Rattle.history.proofs.Versions.{Tells}
 use Rattle.history.proofs.Minds.{Minds, renews, keeps, forgets, act-expects}
 use Rattle.history.proofs.Good.{Good, act-good, walk-good}

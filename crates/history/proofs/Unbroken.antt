@@ -22,8 +22,8 @@ use Rattle.turn.proofs.Kept.{idle-kept, look-kept, insert-kept, remove-kept}
 use Rattle.engine.specs.declared.Floor.{Floor}
 use Rattle.engine.specs.declared.Started.{Started}
 use Rattle.engine.specs.Board.{emptyBucket}
-use Rattle.engine.specs.Refusals.{wrongSizes, openNumber, startNumber, eachNumber, runNumber}
-use Rattle.engine.specs.Calls.{Ran, planned, startCall, turned, noTurns, standing, blank, recordIn, goOn, runFrom, runCall}
+use Rattle.engine.specs.Refusals.{wrongSizes, openNumber, startNumber, eachNumber, turnNumber, runNumber}
+use Rattle.engine.specs.Calls.{Ran, planned, startCall, turned, turnCall, noTurns, standing, blank, recordIn, goOn, runFrom, runCall}
 use Rattle.engine.proofs.Sizes.{right-listed}
 use Rattle.engine.proofs.Buckets.{length-opened}
 use Rattle.engine.proofs.Turns.{own}
@@ -35,6 +35,7 @@ use Rattle.history.specs.Unbroken.{Unbroken}
 use Rattle.history.proofs.Opened.{opened-is, opened-right, opened-bucket}
 use Rattle.history.proofs.Beginning.{no-mark}
 use Rattle.history.proofs.Starting.{not-refused}
+use Rattle.history.proofs.Acting as Acting
 use Rattle.history.proofs.Unrefused.{each-numbers, run-numbers}
 
 -- ---- the opening
@@ -178,6 +179,17 @@ after-unbroken s (turn i) ok = turned-unbroken s ok i _ _ (turn-keeps (s .board)
 after-unbroken s (run turns) ok = run-unbroken s ok turns
 after-unbroken s (show lot) ok = ok
 after-unbroken s count ok = ok
+
+module _ (s : State) (ok : Unbroken s) (i : ℕ) where
+  -- a turn that would be done in a run is done as a call too
+  pub number-is : eachNumber (s .floor) (s .board) i (recordOf s i) ≡ 0 → Acting.number s i ≡ 0
+  unfolding turnNumber
+  number-is none = rw (ok .sized) none
+
+  -- what a turn that is done leaves is unbroken
+  pub turn-unbroken : Acting.number s i ≡ 0 → Unbroken (turnedAs s i (Acting.done s i))
+  unfolding turnCall turned
+  turn-unbroken none = rw none at (after-unbroken s (turn i) ok)
 
 -- calls one after another keep a state unbroken
 calls-unbroken : (s : State) (calls : List Call) → Unbroken s → Unbroken (stateFrom s calls)

@@ -1,6 +1,6 @@
 -- Where nothing is broken and the sizes are right, no call is refused by 1, 3 or 7: which numbers of refusal are left, call by call.
 -- Assumes nothing.
-use Prim.Native.Nat.{ℕ, zero, suc, _<_}
+use Prim.Native.Nat.{ℕ, zero, suc, _≤_, _<_}
 use mathlib.Core.Bool.{Bool, true, false, cond, _||_, not}
 use mathlib.Core.List.{List, [], _∷_}
 use mathlib.Core.Logic.{inl, inr}
@@ -9,11 +9,12 @@ use native.Mathlib.Nat.{mod-lt}
 use native.Mathlib.Omega.{arith}
 use lib.Dec.{ltb}
 use lib.ListN.{length}
-use borrow.Author.Tests.{leb-false}
+use borrow.Author.Tests.{leb-false, lt-leb, le-ltb}
 use Rattle.mark.proofs.Choices.{by-cases}
-use Rattle.turn.specs.Worker.{isIdle}
+use Rattle.turn.specs.Worker.{idle, isIdle}
 use Rattle.turn.specs.Bucket.{brokenBucket}
 use Rattle.turn.specs.Turn.{turnRefusal}
+use Rattle.turn.proofs.Kept.{not-idle, is-idle, idle-kept}
 use Rattle.engine.specs.declared.Floor.{Floor}
 use Rattle.engine.specs.Board.{bucketAt, anyBroken}
 use Rattle.engine.specs.Refusals.{wrongFloor, wrongSizes, noWorker, bucketFor}
@@ -75,6 +76,23 @@ module _ (s : State) (ok : Unbroken s) where
       (λ there. rw (ok .records i (leb-false _ _ there))
       (either-of left (isIdle w) 6 _ (inr (inr (inl refl))) (λ busy. rw (lot-unbroken (w .key)) (inl refl))))
 
+  module _ (i : ℕ) (under : i < s .floor .workers) where
+    -- a turn of a busy worker is never refused
+    pub busy-moves : (recordOf s i ≡ idle → ⊥) → eachNumber (s .floor) (s .board) i (recordOf s i) ≡ 0
+    unfolding eachNumber turnRefusal
+    busy-moves busy =
+        rw (lt-leb (s .floor .workers) i under, ok .records i under, not-idle (recordOf s i) busy, lot-unbroken (recordOf s i .key))
+
+    -- a turn of an idle worker is refused by 6
+    pub idle-stays : recordOf s i ≡ idle → eachNumber (s .floor) (s .board) i (recordOf s i) ≡ 6
+    unfolding eachNumber turnRefusal
+    idle-stays is = rw (lt-leb (s .floor .workers) i under, is, idle-kept, is-idle)
+
+    -- the start of an idle worker is accepted, unless its ticket is spent
+    pub idle-starts : (late : Bool) → recordOf s i ≡ idle → late ≡ false → startNumber (s .floor) (s .board) (length (s .records)) i (recordOf s i) late ≡ 0
+    unfolding startNumber wrongSizes
+    idle-starts late is early = rw (ok .sized, lt-leb (s .floor .workers) i under, is, idle-kept, is-idle, early)
+
   -- a turn call is done, or refused by 2 or 6
   pub turn-numbers : (i : ℕ) → OneOf (0 ∷ 2 ∷ 6 ∷ []) (turnNumber (s .floor) (s .board) (length (s .records)) i (recordOf s i))
   unfolding turnNumber
@@ -84,6 +102,11 @@ module _ (s : State) (ok : Unbroken s) where
   pub run-numbers : (turns : List ℕ) → OneOf (0 ∷ 9 ∷ []) (runNumber (s .floor) (s .board) (length (s .records)) turns)
   unfolding runNumber wrongSizes
   run-numbers turns = rw (ok .sized) (either-of (0 ∷ 9 ∷ []) (ltb 65535 (length turns)) 9 0 (inr (inl refl)) (λ few. inl refl))
+
+  -- a run that is not too long is not refused as a whole
+  pub run-accepted : (turns : List ℕ) → length turns ≤ 65535 → runNumber (s .floor) (s .board) (length (s .records)) turns ≡ 0
+  unfolding runNumber wrongSizes
+  run-accepted turns few = rw (ok .sized, le-ltb 65535 (length turns) few)
 
   -- a show is never refused
   pub show-accepted : (lot : ℕ) → showNumber (s .floor) (s .board) lot ≡ 0

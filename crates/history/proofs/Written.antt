@@ -1,22 +1,20 @@
 -- Where the values of an opened board come from: a turn writes one only where it stores its worker's ticket. Assumes nothing.
-use Prim.Native.Nat.{ℕ, _+_, _*_, _≤_}
+use Prim.Native.Nat.{ℕ}
 use mathlib.Core.List.{List, [], _∷_, _++_, nil≢cons, head-eq-of-cons-eq}
 use mathlib.Core.Logic.{_⊎_, inl, inr}
 use mathlib.Core.Path.{_≡_, refl, sym, ap, subst, _∙_}
 use native.Mathlib.Decide.{ℕ-discrete}
 use native.Mathlib.Omega.{arith}
-use lib.ListN.{length}
 use Rattle.turn.specs.declared.Report.{Report}
 use Rattle.turn.specs.Worker.{ticketPlace}
-use Rattle.turn.specs.Bucket.{cell, valueCell}
-use Rattle.turn.proofs.Cells.{turn-long}
+use Rattle.turn.specs.Bucket.{valueCell}
 use Rattle.engine.specs.Board.{bucketAt}
-use Rattle.engine.proofs.Cut.{bucket-within, same-bucket, other-bucket}
 use Rattle.history.specs.Trace.{Entry, Some}
 use Rattle.history.specs.History.{State, Call, turn, after, turnEntry, stateFrom, traceFrom}
 use Rattle.history.specs.Values.{valueAt, Stores, StoresTicket}
 use Rattle.turn.proofs.Values.{turn-values, turn-stores, turn-ticket, turn-other-cells}
-use Rattle.history.proofs.Steps.{Turns, stepOf, Lasts, calls-last, by-turn}
+use Rattle.history.proofs.Steps.{Turns, Lasts, calls-last, by-turn}
+use Rattle.history.proofs.Account.{own-cells, other-cells}
 use Rattle.history.proofs.Later.{some-front, some-last}
 
 -- a turn with an entry is done
@@ -31,21 +29,6 @@ module _ {s t : State} {e : Entry} (act : Turns s e t) where
   abbrev bucket : List ℕ
   bucket = bucketAt (s .board) (e .bucket)
 
-  within : 8 * e .bucket + 8 ≤ length (s .board)
-  within = bucket-within (s .board) (e .bucket) (act .ok .whole .eight)
-
-  eight : length (stepOf s e .bucket) ≡ 8
-  eight = turn-long bucket (e .was) ∙ act .ok .whole .eight
-
-  -- the cells of its bucket are what the place table says
-  here : (k : ℕ) → cell (bucketAt (t .board) (e .bucket)) k ≡ cell (stepOf s e .bucket) k
-  here k = rw (act .board, same-bucket (s .board) (e .bucket) (stepOf s e .bucket) within eight)
-
-  -- the cells of every other bucket are as they were
-  there : (b k : ℕ) → (b ≡ e .bucket → ⊥) → cell (bucketAt (t .board) b) k ≡ cell (bucketAt (s .board) b) k
-  there b k other =
-      rw (act .board) (ap (λ (l : List ℕ). cell l k) (other-bucket (s .board) (e .bucket) (stepOf s e .bucket) within eight b other))
-
   -- a turn at place 7 is one that stores
   stores-at : e .was .place ≡ ticketPlace → Stores e
   stores-at place = (place, ap (λ (r : Report). r .action) (act .report) ∙ turn-stores bucket (e .was) (act .ok) place)
@@ -55,18 +38,18 @@ module _ {s t : State} {e : Entry} (act : Turns s e t) where
   quiet-spares elsewhere b p = by (ℕ-discrete b (e .bucket))
     where
       by : Dec (b ≡ e .bucket) → valueAt t b p ≡ valueAt s b p
-      by (no another) = there b _ another
-      by (yes is) = rw is (here _ ∙ turn-values bucket (e .was) (act .ok) elsewhere _ (omega arith))
+      by (no another) = other-cells act b _ another
+      by (yes is) = rw is (own-cells act _ ∙ turn-values bucket (e .was) (act .ok) elsewhere _ (omega arith))
 
   -- one that stores its ticket changes no value but that of the slot that it holds
   store-spares : e .was .place ≡ ticketPlace → (b p : ℕ) → (b ≡ e .bucket → p ≡ e .was .held → ⊥) → valueAt t b p ≡ valueAt s b p
   store-spares place b p other = by (ℕ-discrete b (e .bucket))
     where
       by : Dec (b ≡ e .bucket) → valueAt t b p ≡ valueAt s b p
-      by (no another) = there b _ another
+      by (no another) = other-cells act b _ another
       by (yes is) =
           let another : p ≡ e .was .held → ⊥ = other is in
-          rw is (here _ ∙ turn-other-cells bucket (e .was) (act .ok) place _ (omega arith))
+          rw is (own-cells act _ ∙ turn-other-cells bucket (e .was) (act .ok) place _ (omega arith))
 
   -- a turn changes no value but that of the slot that it stores its ticket to
   pub turn-spares : (b p : ℕ) → (Stores e → b ≡ e .bucket → p ≡ e .was .held → ⊥) → valueAt t b p ≡ valueAt s b p
@@ -78,7 +61,7 @@ module _ {s t : State} {e : Entry} (act : Turns s e t) where
 
   -- a turn that stores its ticket makes it the value of the slot that it holds
   pub store-writes : Stores e → valueAt t (e .bucket) (e .was .held) ≡ e .was .ticket
-  store-writes stores = here (valueCell (e .was .held)) ∙ turn-ticket bucket (e .was) (act .ok) (stores .0)
+  store-writes stores = own-cells act (valueCell (e .was .held)) ∙ turn-ticket bucket (e .was) (act .ok) (stores .0)
 
   -- a value stays, or is the ticket that the turn stores
   turn-written : (b p : ℕ) → (valueAt t b p ≡ valueAt s b p) ⊎ StoresTicket (valueAt t b p) e
@@ -89,7 +72,7 @@ module _ {s t : State} {e : Entry} (act : Turns s e t) where
           → Dec (e .was .place ≡ ticketPlace)
           → Dec (p ≡ e .was .held)
           → (valueAt t b p ≡ valueAt s b p) ⊎ StoresTicket (valueAt t b p) e
-      by (no another) place slot = inl (there b _ another)
+      by (no another) place slot = inl (other-cells act b _ another)
       by (yes is) (no elsewhere) slot = inl (quiet-spares elsewhere b p)
       by (yes is) (yes place) (no other) = inl (store-spares place b p (λ same slot. other slot))
       by (yes is) (yes place) (yes slot) = inr (stores-at place, rw (is, slot) (sym (store-writes (stores-at place))))

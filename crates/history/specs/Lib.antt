@@ -4,9 +4,12 @@ pub mod Counts
 pub mod Moment
 pub mod Numbers
 pub mod Demand
-pub mod Openings
 pub mod Values
+pub mod Cells
 pub mod Unbroken
 pub mod Singly
 pub mod Lots
+pub mod InCall
+pub mod HowLong
+pub mod Openings
 pub mod Trials

@@ -3,11 +3,11 @@
 use mathlib.Core.List.{List, _∷_, _++_}
 use mathlib.Core.Logic.{_⊎_}
 use mathlib.Core.Path.{_≡_}
-use Rattle.history.specs.Trace.{Entry, Changes, ReadsWhole, Commits, Closes, Continues, Cut, None}
+use Rattle.history.specs.Trace.{Entry, Changes, ReadsWhole, Commits, Closes, Continues, Ends, By, Cut, None}
 
 -- an entry of the same worker
 abbrev pub Own : Entry → Entry → Type 0
-Own y e = e .worker ≡ y .worker
+Own y e = By (y .worker) e
 
 -- an entry of another worker, in the same bucket
 abbrev pub AnothersIn : Entry → Entry → Type 0
@@ -27,7 +27,7 @@ pub record IsMoment (x : Entry) (between : List Entry) (y : Entry) : Type 0 wher
 pub record OneCall (x : Entry) (between : List Entry) (y : Entry) : Type 0 where
   pub bucket : x .bucket ≡ y .bucket
   pub first : Continues x
-  pub rest : None (λ e. Own y e × (Continues e → ⊥)) between
+  pub rest : None (λ e. Own y e × Ends e) between
 
 -- a trace, cut at one of its turns
 pub record AtTurn (trace : List Entry) : Type 0 where

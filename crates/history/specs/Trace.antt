@@ -59,6 +59,14 @@ ReadsWhole e = e .was .place ≡ readPlace
 abbrev pub Continues : Entry → Type 0
 Continues e = e .report .progress ≡ GoesOn
 
+-- §4.8: the call has ended
+abbrev pub Ends : Entry → Type 0
+Ends e = Continues e → ⊥
+
+-- a turn of worker i
+abbrev pub By : ℕ → Entry → Type 0
+By i e = e .worker ≡ i
+
 -- ---- entries of a trace
 
 -- a trace is cut at an entry, so that P holds of the entry and of what comes after it

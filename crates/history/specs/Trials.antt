@@ -1,9 +1,10 @@
--- Trials P6 and P11 as the calls of a history (decision 78).
+-- Trials P6 and P11, and the longest calls, as the calls of a history (decision 78).
 use Prim.Native.Nat.{ℕ}
 use mathlib.Core.List.{List, [], _∷_, _++_}
 use lib.ListN.{replicate}
 use Rattle.engine.specs.declared.Plan.{Plan}
-use Rattle.history.specs.History.{Call, insert, remove, run, ticket}
+use Rattle.history.specs.HowLong.{lookLeast, lookMost, removeMost, insertMost}
+use Rattle.history.specs.History.{Call, look, insert, remove, run, ticket}
 
 -- one bucket and version 0, as the trials have it, and so many workers
 abbrev pub planFor : ℕ → Plan
@@ -61,3 +62,25 @@ repeatedWord = wordRepeats ++ turnsOf A 1 ∷ []
 -- §6.2, §10.7: a ticket that was taken before, and a worker whose number is the number of workers
 abbrev pub refusedStarts : List Call
 refusedStarts = insert 0 7 (ticket 1) ∷ insert 1 8 (ticket 1) ∷ remove 2 7 ∷ []
+
+-- ---- calls that take just as many turns as a call of their kind can, or as few
+
+-- two lots come into one bucket, by one worker
+abbrev pub twoLots : List Call
+twoLots = insert 0 7 (ticket 1) ∷ turnsOf 0 11 ∷ insert 0 8 (ticket 2) ∷ turnsOf 0 12 ∷ []
+
+-- §15.3: three lots come into one bucket, and the third finds the last slot alone empty
+abbrev pub threeLots : List Call
+threeLots = twoLots ++ (insert 0 9 (ticket 3) ∷ turnsOf 0 insertMost ∷ [])
+
+-- §15.1: a look for the lot in the last of three slots
+abbrev pub longestLook : List Call
+longestLook = threeLots ++ (look 0 9 ∷ turnsOf 0 lookMost ∷ [])
+
+-- §15.1: a look for the lot in the first of three slots
+abbrev pub shortestLook : List Call
+shortestLook = threeLots ++ (look 0 7 ∷ turnsOf 0 lookLeast ∷ [])
+
+-- §15.2: a remove of the lot in the last of three slots
+abbrev pub longestRemove : List Call
+longestRemove = threeLots ++ (remove 0 9 ∷ turnsOf 0 removeMost ∷ [])

@@ -1,0 +1,271 @@
+-- A worker alone: where each of its turns uses up one of so many that its call can take, a run of so many turns leaves it idle, and so do
+-- they among any other calls, as long as no other worker has a turn; where no turn of it can end its call it never ends. Assumes nothing.
+use Prim.Native.Nat.{ℕ, zero, suc, _+_, _≤_, _<_}
+use mathlib.Core.Bool.{Bool}
+use mathlib.Core.List.{List, [], _∷_, _++_}
+use mathlib.Core.Logic.{_⊎_, inl, inr}
+use mathlib.Core.Path.{_≡_, refl, sym, ap, subst, _∙_}
+use native.Mathlib.Decide.{ℕ-discrete}
+use native.Mathlib.Omega.{arith}
+use lib.ListN.{length, replicate, length-append, length-replicate}
+use Rattle.mark.specs.Word.{markOf}
+use Rattle.turn.specs.declared.Worker.{Worker}
+use Rattle.turn.specs.declared.Action.{Action}
+use Rattle.turn.specs.declared.Stepped.{Stepped}
+use Rattle.turn.specs.declared.Report.{Report}
+use Rattle.turn.specs.Worker.{idle}
+use Rattle.turn.specs.Bucket.{cell, markCell, valueCell}
+use Rattle.turn.specs.Places.{goesOn, ends, turn}
+use Rattle.turn.specs.Turn.{After}
+use Rattle.turn.proofs.Sound.{Accepted}
+use Rattle.engine.specs.declared.Floor.{Floor}
+use Rattle.engine.specs.Board.{bucketAt}
+use Rattle.engine.specs.Calls.{Ran, noTurns, standing, recordIn, runFrom, runCall}
+use Rattle.engine.proofs.Stops.{doneBy, next-done, next-refused}
+use Rattle.history.specs.Trace.{Entry, By, Continues, Ends, Some, None}
+use Rattle.history.specs.Numbers.{OneOf}
+use Rattle.history.specs.History.{State, Call, recordOf, runOf, stateFrom, traceFrom}
+use Rattle.history.specs.Unbroken.{Unbroken}
+use Rattle.history.specs.Cells.{home}
+use Rattle.history.specs.HowLong.{Alone, EndsAlone, GoesOnFor, NeverEndsAlone}
+use Rattle.history.proofs.View.{new-record, old-record}
+use Rattle.history.proofs.States.{view}
+use Rattle.history.proofs.Steps.{Begins, Turns, stepOf, done-turns, calls-last}
+use Rattle.history.proofs.Account.{own-bucket, was-home, still-home}
+use Rattle.history.proofs.Unrefused.{busy-moves, idle-stays, run-accepted}
+use Rattle.history.proofs.Unbroken.{number-is, turn-unbroken}
+use Rattle.history.proofs.Later.{none-last, some-front, some-last}
+use Rattle.history.proofs.Cuts.{none-nil}
+use Rattle.history.proofs.Numbered.{answered-ends}
+use Rattle.history.proofs.Cells.{Known, known-lasts}
+
+-- every valid slot of a bucket has a ticket
+abbrev pub Ticketed : List ℕ → Type 0
+Ticketed b = (p : ℕ) → markOf (cell b markCell) p ≡ 1 → 1 ≤ cell b (valueCell p)
+
+-- the bucket of a worker's lot
+abbrev ownBucket : ℕ → State → List ℕ
+ownBucket i s = bucketAt (s .board) (home (s .floor .buckets) (recordOf s i))
+
+-- what is known, by A, of a worker alone in a bucket that has had k turns of its call; Q holds if the call can end
+module _ (A : List ℕ → ℕ → Worker → Type 0) (Q : Type 0) where
+  -- its next turn leaves it at its call with one turn more, or ends the call
+  pub data StepsTo (k : ℕ) (b : List ℕ) : Stepped → Type 0 where
+    further : {a : Action} {full : Bool} {v : Worker} → A b (k + 1) v → StepsTo k b (goesOn a full v)
+    final : Q → (a : Action) (answer : ℕ) → StepsTo k b (ends a answer)
+
+  -- every accepted turn of a worker of which A is known steps so
+  pub record Goes : Type 0 where
+    pub busy : {b : List ℕ} {k : ℕ} {w : Worker} → A b k w → w ≡ idle → ⊥
+    pub steps : {b : List ℕ} {k : ℕ} {w : Worker} → Accepted b w → Ticketed b → A b k w → StepsTo k (turn b w .bucket) (turn b w .stepped)
+
+  -- how its turn came out
+  data Afterwards (i k : ℕ) (t : State) (e : Entry) : Type 0 where
+    goes : Continues e → A (ownBucket i t) (k + 1) (recordOf t i) → Afterwards i k t e
+    ended : Q → Ends e → recordOf t i ≡ idle → Afterwards i k t e
+
+  module _ (count : Goes) where
+    -- ---- a turn
+
+    module _ {s t : State} {e : Entry} (act : Turns s e t) (known : Known s) (k : ℕ) (had : A (ownBucket (e .worker) s) k (recordOf s (e .worker))) where
+      abbrev x : Stepped
+      x = stepOf s e .stepped
+
+      record-then : recordOf t (e .worker) ≡ x .worker
+      record-then = new-record (view s) (view t) (e .worker) (x .worker) (act .acts .records) (act .acts .within)
+
+      -- the bucket and the record that the turn found
+      had-then : A (bucketAt (s .board) (e .bucket)) k (e .was)
+      had-then = rw (was-home act, act .acts .was) had
+
+      ticketed : Ticketed (bucketAt (s .board) (e .bucket))
+      ticketed p one = known .cells .valid (e .bucket) p one .ticket
+
+      by-step : {y : Stepped} → StepsTo k (stepOf s e .bucket) y → x ≡ y → Afterwards (e .worker) k t e
+      by-step (further {v = v} more) is =
+          let worker : x .worker ≡ v = ap (λ (y : Stepped). y .worker) is in
+          let there : home (t .floor .buckets) (recordOf t (e .worker)) ≡ e .bucket =
+          ap (home (t .floor .buckets)) record-then ∙ still-home act (λ rests. count .busy more (sym worker ∙ rests)) in
+          goes (ap (λ (r : Report). r .progress) (act .report) ∙ ap (λ (y : Stepped). y .report .progress) is)
+          (rw (there, own-bucket act, record-then, worker) more)
+      by-step (final can a answer) is =
+          ended can (answered-ends e answer (ap (λ (r : Report). r .progress) (act .report) ∙ ap (λ (y : Stepped). y .report .progress) is))
+          (record-then ∙ ap (λ (y : Stepped). y .worker) is)
+
+      turn-went : Afterwards (e .worker) k t e
+      turn-went = by-step (count .steps (act .ok) ticketed had-then) refl
+
+    -- ---- any calls
+
+    module _ (i : ℕ) where
+      -- the call can end, and has; or no turn so far has ended it, and the worker is at it
+      abbrev Comes : State → List Entry → Type 0
+      Comes s past = (Q × Some Ends past) ⊎ (None Ends past × A (ownBucket i s) (length past) (recordOf s i))
+
+      -- as long as no other worker has had a turn
+      record Counted (s : State) (past : List Entry) : Type 0 where
+        known : Known s
+        comes : Alone i past → Comes s past
+
+      start-comes : {s t : State} {v : Worker} {spent : List ℕ} (past : List Entry) → Begins s v spent t → Comes s past → Comes t past
+      start-comes past start (inl over) = inl over
+      start-comes {s} {t} {v} past start (inr on) = inr (on .0, by (ℕ-discrete i (start .starts .who)))
+        where
+          by : Dec (i ≡ start .starts .who) → A (ownBucket i t) (length past) (recordOf t i)
+          by (yes own) = absurd (count .busy (on .1) (ap (recordOf s) own ∙ start .starts .was))
+          by (no other) =
+              let same = old-record (view s) (view t) (start .starts .who) v (start .starts .records) i other in
+              rw (start .board, start .buckets, same) (on .1)
+
+      turn-comes : {s t : State} {e : Entry} (past : List Entry) → Turns s e t → Known s → By i e → Comes s past → Comes t (past ++ (e ∷ []))
+      turn-comes {e = e} past act known own (inl over) = inl (over .0, some-front Ends past (e ∷ []) (over .1))
+      turn-comes {s} {t} {e} past act known own (inr on) =
+          by (subst (λ (j : ℕ). Afterwards j (length past) t e) own (turn-went act known (length past) (rw own (on .1))))
+        where
+          by : Afterwards i (length past) t e → Comes t (past ++ (e ∷ []))
+          by (goes continues had) = inr (none-last Ends past e (on .0) (λ over. over continues), rw (length-append past (e ∷ [])) had)
+          by (ended can over rests) = inl (can, some-last Ends past e over)
+
+      turn-counted : {s t : State} {e : Entry} (past : List Entry) → Turns s e t → Counted s past → Counted t (past ++ (e ∷ []))
+      turn-counted {e = e} past act old =
+          record {
+            known = known-lasts .turns past [] act (old .known);
+            comes = λ alone.
+                turn-comes past act (old .known) (own (ℕ-discrete (e .worker) i) (λ other. alone (some-last _ past e other)))
+                (old .comes (λ some. alone (some-front _ past (e ∷ []) some)));
+          }
+        where
+          own : Dec (By i e) → ((By i e → ⊥) → ⊥) → By i e
+          own (yes is) alone = is
+          own (no other) alone = absurd (alone other)
+
+      -- whatever is called, as long as no other worker has a turn
+      comes-then :
+          (s : State) → Known s → A (ownBucket i s) 0 (recordOf s i) → (rest : List Call) → Alone i (traceFrom s rest)
+          → Comes (stateFrom s rest) (traceFrom s rest)
+      comes-then s known had rest =
+          calls-last (λ s past ts. Counted s past)
+          (record {
+            begins = λ past ts start old.
+                record { known = known-lasts .begins past ts start (old .known); comes = λ alone. start-comes past start (old .comes alone) };
+            turns = λ past ts act old. turn-counted past act old;
+          }) rest s [] []
+          (record { known = known; comes = λ alone. inr (none-nil Ends, had) }) .comes
+
+    -- ---- a run
+
+    module _ (f : Floor) (i : ℕ) (under : i < f .workers) where
+      abbrev stands : After Ran → State
+      stands x = record { board = x .words; floor = f; records = x .handed .records }
+
+      -- after m more turns in a run that stood at x the worker is idle
+      record Idled (m : ℕ) (x y : After Ran) : Type 0 where
+        idles : recordIn (y .handed .records) i ≡ idle
+        within : y .handed .totals .turns ≤ x .handed .totals .turns + m
+        stops : OneOf (0 ∷ 6 ∷ []) (y .handed .stop)
+
+      -- or it is at its call still, and all of them are done
+      record StillBusy (m k : ℕ) (x y : After Ran) : Type 0 where
+        had : A (ownBucket i (stands y)) (k + m) (recordOf (stands y) i)
+        turns : y .handed .totals .turns ≡ x .handed .totals .turns + m
+        stops : y .handed .stop ≡ 0
+
+      abbrev Runs : ℕ → ℕ → After Ran → After Ran → Type 0
+      Runs m k x y = (Q × Idled m x y) ⊎ StillBusy m k x y
+
+      -- an idle worker has no turn
+      idle-run :
+          (m : ℕ) (x : After Ran) → Unbroken (stands x) → recordOf (stands x) i ≡ idle → x .handed .stop ≡ 0 → Idled m x (runFrom f (replicate m i) x)
+      unfolding runFrom
+      idle-run zero x ok rests stop = record { idles = rests; within = omega arith; stops = inl stop }
+      idle-run (suc m) x ok rests stop =
+          let six = idle-stays (stands x) ok i under rests in
+          rw (next-refused f i (replicate m i) x (λ none. omega (arith, six, none)))
+          (record { idles = rests; within = omega arith; stops = inr (inl six) })
+
+      -- a busy one has turns until its call ends
+      busy-run :
+          (m k : ℕ) (x : After Ran)
+          → Unbroken (stands x)
+          → Known (stands x)
+          → x .handed .stop ≡ 0
+          → A (ownBucket i (stands x)) k (recordOf (stands x) i)
+          → Runs m k x (runFrom f (replicate m i) x)
+      unfolding runFrom
+      busy-run zero k x ok known stop had =
+          inr (record { had = subst (λ (n : ℕ). A (ownBucket i (stands x)) n (recordOf (stands x) i)) (omega arith) had; turns = omega arith; stops = stop })
+      busy-run (suc m) k x ok known stop had =
+          let none = busy-moves (stands x) ok i under (count .busy had) in
+          let act = done-turns (stands x) i (number-is (stands x) ok i none) in
+          let still = turn-unbroken (stands x) ok i (number-is (stands x) ok i none) in
+          rw (next-done f i (replicate m i) x none)
+          (by (turn-went act known k had) (busy-run m (k + 1) (doneBy f i x) still (known-lasts .turns [] [] act known) refl)
+          (λ rests. idle-run m (doneBy f i x) still rests refl))
+        where
+          later : {y : After Ran} → Idled m (doneBy f i x) y → Idled (suc m) x y
+          later rests = record { idles = rests .idles; within = omega (arith, rests .within); stops = rests .stops }
+
+          more : {y : After Ran} → Runs m (k + 1) (doneBy f i x) y → Runs (suc m) k x y
+          more (inl rests) = inl (rests .0, later (rests .1))
+          more {y} (inr busy) =
+              inr (record {
+                had = subst (λ (n : ℕ). A (ownBucket i (stands y)) n (recordOf (stands y) i)) (omega arith) (busy .had);
+                turns = omega (arith, busy .turns);
+                stops = busy .stops;
+              })
+
+          by :
+              {e : Entry} {y : After Ran}
+              → Afterwards i k (stands (doneBy f i x)) e
+              → (A (ownBucket i (stands (doneBy f i x))) (k + 1) (recordOf (stands (doneBy f i x)) i) → Runs m (k + 1) (doneBy f i x) y)
+              → (recordOf (stands (doneBy f i x)) i ≡ idle → Idled m (doneBy f i x) y)
+              → Runs (suc m) k x y
+          by (goes continues had) busy resting = more (busy had)
+          by (ended can over rests) busy resting = inl (can, later (resting rests))
+
+    -- a run of a worker that is at a call in s
+    module _ (s : State) (i : ℕ) (ok : Unbroken s) (known : Known s) (under : i < s .floor .workers) (had : A (ownBucket i s) 0 (recordOf s i)) where
+      run-is : (n : ℕ) → n ≤ 65535 → runOf s (replicate n i) ≡ runFrom (s .floor) (replicate n i) (standing (s .board) (s .records) noTurns 0)
+      unfolding runCall
+      run-is n few = rw (run-accepted s ok (replicate n i) (omega (arith, length-replicate n i)))
+
+      runs : (n : ℕ) → n ≤ 65535 → Runs (s .floor) i under n 0 (standing (s .board) (s .records) noTurns 0) (runOf s (replicate n i))
+      runs n few = rw (run-is n few) (busy-run (s .floor) i under n 0 (standing (s .board) (s .records) noTurns 0) ok known refl had)
+
+      -- a call that can take so many turns ends within them
+      module _ (most : ℕ) (fewer : (b : List ℕ) (k : ℕ) (w : Worker) → A b k w → k < most) (few : most ≤ 65535) where
+        still-fewer : (rest : List Call) → Comes i (stateFrom s rest) (traceFrom s rest) → None Ends (traceFrom s rest) → length (traceFrom s rest) < most
+        still-fewer rest (inl over) unended = absurd (unended (over .1))
+        still-fewer rest (inr on) unended = fewer _ _ _ (on .1)
+
+        ends-by : Runs (s .floor) i under most 0 (standing (s .board) (s .records) noTurns 0) (runOf s (replicate most i)) → EndsAlone s i most
+        ends-by (inr busy) = absurd (omega (arith, fewer _ _ _ (busy .had)))
+        ends-by (inl rests) =
+            record {
+              busy = count .busy had;
+              idles = rests .1 .idles;
+              within = omega (arith, rests .1 .within);
+              stops = rests .1 .stops;
+              meanwhile = λ rest alone unended. still-fewer rest (comes-then i s known had rest alone) unended;
+            }
+
+        pub ends-alone : EndsAlone s i most
+        ends-alone = ends-by (runs most few)
+
+      -- a call that cannot end goes on
+      module _ (never : Q → ⊥) where
+        goes-by :
+            (n : ℕ)
+            → Runs (s .floor) i under n 0 (standing (s .board) (s .records) noTurns 0) (runOf s (replicate n i))
+            → GoesOnFor s i n
+        goes-by n (inl rests) = absurd (never (rests .0))
+        goes-by n (inr on) =
+            record { turns = omega (arith, on .turns); stops = on .stops; busy = count .busy (on .had) }
+
+        still-none : (rest : List Call) → Comes i (stateFrom s rest) (traceFrom s rest) → None Ends (traceFrom s rest)
+        still-none rest (inl over) = absurd (never (over .0))
+        still-none rest (inr on) = on .0
+
+        pub never-alone : NeverEndsAlone s i
+        never-alone =
+            record { runs = λ n few. goes-by n (runs n few); meanwhile = λ rest alone. still-none rest (comes-then i s known had rest alone) }

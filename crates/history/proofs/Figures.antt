@@ -1,0 +1,159 @@
+-- The figures are met: for each there is a history with a call that takes just so many turns, computed turn by turn; and one with an insert
+-- alone that never ends. Assumes nothing.
+use Prim.Native.Nat.{ℕ, _+_}
+use mathlib.Core.Bool.{false}
+use mathlib.Core.List.{List, [], _∷_, _++_}
+use mathlib.Core.Logic.{_⊎_, inl, inr}
+use mathlib.Core.Path.{_≡_, refl, sym, ap, subst, _∙_}
+use native.Mathlib.Omega.{arith}
+use Rattle.mark.specs.Word.{markOf}
+use Rattle.turn.specs.declared.Action.the-variants.{Read, Won}
+use Rattle.turn.specs.declared.Action.{Action}
+use Rattle.turn.specs.declared.Progress.the-variants.{Ended}
+use Rattle.turn.specs.Worker.{lookKind, insertKind, removeKind, idle}
+use Rattle.turn.proofs.Works.{among}
+use Rattle.history.specs.Trace.{Entry, By, None, total}
+use Rattle.history.specs.Cells.{markAt, keyAt}
+use Rattle.history.specs.InCall.{AtRest, ownTurns}
+use Rattle.history.specs.HowLong.{lookLeast, lookMost, removeMost, insertMost, Alone, NeverEndsAlone, HasRoom, HasLot, StartsSo, Takes}
+use Rattle.history.specs.History.{State, Call, look, insert, remove, ticket, opened, recordOf, insertBy, stateFrom, traceFrom, state, trace}
+use Rattle.history.specs.Trials.{turnsOf, twoLots, threeLots, longestLook, shortestLook, longestRemove}
+use Rattle.history.proofs.Cuts.{none-nil}
+use Rattle.history.proofs.Histories.{traceFrom-append}
+use Rattle.history.proofs.Found.{At, cut-by-number, none-counted, ended, none-ended}
+use Rattle.history.proofs.Numbered.{answered-ends}
+use Rattle.history.proofs.Cells.{marked-few}
+use Rattle.history.proofs.HowLong.{how-long}
+use Rattle.history.proofs.Reached.{oneWorker, computed}
+
+-- the floor of one worker has no other
+alone : (es : List Entry) → total (λ e. e .worker) es ≡ 0 → Alone 0 es
+alone = none-counted (λ e. By 0 e → ⊥) (λ e. e .worker) (λ e other. other)
+
+-- after these turns worker 0 is at no call, since turn n, the last of them, ended one
+rested : (es : List Entry) (n answer : ℕ) → At (λ e newer. By 0 e × (e .report .progress ≡ Ended answer) × (newer ≡ [])) es n → AtRest 0 es
+rested es n answer at =
+    let last = cut-by-number (λ e newer. By 0 e × (e .report .progress ≡ Ended answer) × (newer ≡ [])) es n at in
+    inr (record {
+      older = last .older;
+      entry = last .entry;
+      newer = last .newer;
+      cut = last .cut;
+      holds = (last .holds .0, answered-ends (last .entry) answer (last .holds .1), subst (None (By 0)) (sym (last .holds .2)) (none-nil (By 0)));
+    })
+
+-- a call of worker 0 that starts after some calls, which leave the state s with worker 0 at no call
+module _ (first : List Call) (s : State) (is : state oneWorker first ≡ s) (rest : AtRest 0 (trace oneWorker first)) where
+  -- its start, and so many turns of it
+  module _ (start : Call) (more : ℕ) where
+    abbrev between : List Entry
+    between = traceFrom s (start ∷ turnsOf 0 more ∷ [])
+
+    -- and then its last turn, with this action and this answer
+    abbrev end : Action → ℕ → Entry
+    end action answer =
+        record {
+          worker = 0;
+          bucket = 0;
+          was = recordOf (stateFrom s (start ∷ turnsOf 0 more ∷ [])) 0;
+          report = record { action = action; progress = Ended answer; full = false };
+        }
+
+    takes :
+        (calls : List Call) (kind turns : ℕ) (action : Action) (answer : ℕ)
+        → traceFrom s calls ≡ between ++ (end action answer ∷ [])
+        → total (ended (end action answer)) between ≡ 0
+        → end action answer .was .kind ≡ kind
+        → ownTurns 0 between + 1 ≡ turns
+        → total (λ e. e .worker) between ≡ 0
+        → Takes oneWorker (first ++ calls) kind turns
+    takes calls kind turns action answer cut unended of-kind number others =
+        record {
+          at =
+              record {
+                before = trace oneWorker first;
+                between = between;
+                turn = end action answer;
+                after = [];
+                cut =
+                    traceFrom-append (opened oneWorker) first calls
+                    ∙ ap (λ (t : State). trace oneWorker first ++ traceFrom t calls) is
+                    ∙ ap (λ (es : List Entry). trace oneWorker first ++ es) cut;
+                rested = rest;
+                unended = none-ended (end action answer) between unended;
+              };
+          of-kind = of-kind;
+          ends = answered-ends (end action answer) answer refl;
+          number = number;
+          alone = alone between others;
+        }
+
+-- ---- with two lots, and with three
+
+-- one bucket with this mark word, keys and values, one worker that is idle, and the last ticket
+abbrev oneBucket : List ℕ → ℕ → State
+oneBucket bucket last = record { board = bucket; floor = record { workers = 1; buckets = 1; last = last }; records = idle ∷ [] }
+
+-- version 2; marks 1, 1, 0
+abbrev two : State
+two = oneBucket (1103806595074 ∷ 7 ∷ 8 ∷ 0 ∷ 1 ∷ 2 ∷ 0 ∷ 0 ∷ []) 2
+
+-- version 3; marks 1, 1, 1
+abbrev three : State
+three = oneBucket (282578783305731 ∷ 7 ∷ 8 ∷ 9 ∷ 1 ∷ 2 ∷ 3 ∷ 0 ∷ []) 3
+
+two-is : state oneWorker twoLots ≡ two
+unfolding computed
+two-is = refl
+
+two-rested : AtRest 0 (trace oneWorker twoLots)
+unfolding computed
+two-rested = rested (trace oneWorker twoLots) 22 1 (refl, refl, refl)
+
+three-is : state oneWorker threeLots ≡ three
+unfolding computed
+three-is = refl
+
+three-rested : AtRest 0 (trace oneWorker threeLots)
+unfolding computed
+three-rested = rested (trace oneWorker threeLots) 35 1 (refl, refl, refl)
+
+-- ---- the figures
+
+-- §15.1: there is a look that takes ten turns
+pub look-takes-ten : Takes oneWorker longestLook lookKind lookMost
+unfolding computed
+look-takes-ten = takes threeLots three three-is three-rested (look 0 9) 9 (look 0 9 ∷ turnsOf 0 lookMost ∷ []) lookKind lookMost Read 3 refl refl refl refl refl
+
+-- §15.1: there is a look that takes four
+pub look-takes-four : Takes oneWorker shortestLook lookKind lookLeast
+unfolding computed
+look-takes-four = takes threeLots three three-is three-rested (look 0 7) 3 (look 0 7 ∷ turnsOf 0 lookLeast ∷ []) lookKind lookLeast Read 1 refl refl refl refl refl
+
+-- §15.2: there is a remove alone that takes six
+pub remove-takes-six : Takes oneWorker longestRemove removeKind removeMost
+unfolding computed
+remove-takes-six =
+    takes threeLots three three-is three-rested (remove 0 9) 5 (remove 0 9 ∷ turnsOf 0 removeMost ∷ []) removeKind removeMost Won 3 refl refl refl refl refl
+
+-- §15.3: there is an insert alone that takes thirteen
+pub insert-takes-thirteen : Takes oneWorker threeLots insertKind insertMost
+unfolding computed
+insert-takes-thirteen =
+    takes twoLots two two-is two-rested (insert 0 9 (ticket 3)) 12 (insert 0 9 (ticket 3) ∷ turnsOf 0 insertMost ∷ []) insertKind insertMost Won 1
+    refl refl refl refl refl
+
+-- ---- and without end
+
+-- three lots leave no slot empty, and lot 10 is none of them
+no-room : (HasRoom three 10 ⊎ HasLot three 10) → ⊥
+unfolding markOf
+no-room (inl room) = among (λ p. markAt three 0 p ≡ 0 → ⊥) 0 3 (room .slot) (omega arith, (omega arith, (omega arith, tt))) (omega arith) (omega (arith, room .few)) (room .empty)
+no-room (inr there) =
+    among (λ p. keyAt three 0 p ≡ 10 → ⊥) 0 3 (there .slot) (omega arith, (omega arith, (omega arith, tt))) (omega arith)
+    (omega (arith, marked-few _ (there .slot) (there .valid))) (there .key)
+
+-- §15.3: there is an insert alone that never ends
+pub insert-goes-round : StartsSo (state oneWorker threeLots) 0 (insertBy (state oneWorker threeLots) 0 10 (ticket 4)) (λ t. NeverEndsAlone t 0)
+insert-goes-round =
+    how-long oneWorker threeLots .alone .insert-never 0 10 (ticket 4) (rw three-is) (rw three-is (omega arith)) (rw three-is no-room)

@@ -1,0 +1,31 @@
+-- The turns of a call: a trace is cut where a worker is at no call, and at one of its turns since, with no end of a call between. So each
+-- turn has its number in its call.
+use Prim.Native.Nat.{ℕ, _+_}
+use mathlib.Core.List.{List, _∷_, _++_}
+use mathlib.Core.Logic.{_⊎_}
+use mathlib.Core.Path.{_≡_}
+use native.Mathlib.Decide.{ℕ-discrete}
+use Rattle.history.specs.Trace.{Entry, By, Ends, Cut, None}
+use Rattle.history.specs.Counts.{howMany}
+
+-- after these turns worker i is at no call that had a turn: it has had none, or its last one ended its call
+abbrev pub AtRest : ℕ → List Entry → Type 0
+AtRest i trace = None (By i) trace ⊎ Cut (λ e newer. By i e × Ends e × None (By i) newer) trace
+
+-- a trace, cut before a call and at one of the call's turns; between them are its turns before that one, and what others did meanwhile
+pub record InCall (trace : List Entry) : Type 0 where
+  pub before : List Entry
+  pub between : List Entry
+  pub turn : Entry
+  pub after : List Entry
+  pub cut : trace ≡ before ++ (between ++ (turn ∷ after))
+  pub rested : AtRest (turn .worker) before
+  pub unended : None (λ e. By (turn .worker) e × Ends e) between
+
+-- how many of these turns are worker i's
+abbrev pub ownTurns : ℕ → List Entry → ℕ
+ownTurns i es = howMany (λ e. ℕ-discrete (e .worker) i) es
+
+-- which turn of its call it is, counted from 1
+abbrev pub numberInCall : {trace : List Entry} → InCall trace → ℕ
+numberInCall at = ownTurns (at .turn .worker) (at .between) + 1
