@@ -15,6 +15,10 @@ static const char *const call_refusals[CALLS] = {"01", "01234", "012345", "01234
 
 static unsigned long met[CALLS][10], places[LAST_PLACE + 1], changes, lost, full;
 
+/* reports, of a turn or the last of a run: those of a bucket past the first, and those whose two words differ; and runs that were stopped,
+   but not at once */
+static unsigned long elsewhere[CALLS], changed[CALLS], stopped_later;
+
 static bool missing(const char *what, unsigned number, unsigned long times) {
     if (times == 0) printf("never met: %s %u\n", what, number);
     return times == 0;
@@ -29,24 +33,32 @@ bool met_everything(void) {
     lacks |= missing("changes in runs over", 0, changes);
     lacks |= missing("lost swaps in runs over", 0, lost);
     lacks |= missing("full rounds in runs over", 0, full);
+    lacks |= missing("turns in buckets over", 0, elsewhere[TURN]);
+    lacks |= missing("last turns of runs in buckets over", 0, elsewhere[RUN]);
+    lacks |= missing("turns that leave another mark word over", 0, changed[TURN]);
+    lacks |= missing("last turns of runs that leave another mark word over", 0, changed[RUN]);
+    lacks |= missing("turns done in a run that is stopped over", 0, stopped_later);
     printf("%lu calls of %lu histories compared, with no difference; runs had %lu changes, %lu lost swaps, %lu full rounds\n", compared,
         histories, changes, lost, full);
     return !lacks;
 }
 
-/* ---- answers, as a row of numbers of which the first is the refusal */
+/* ---- answers, as a row of numbers of which the first is the refusal; a report stands at the end of its row */
+
+enum { MOST_NUMBERS = 12, REPORT_OF_TURN = 1, REPORT_OF_RUN = 5 };
 
 typedef struct {
-    uint64_t number[5];
+    uint64_t number[MOST_NUMBERS];
 } answer;
 
-static const char *const answer_names[CALLS][5] = {
+static const char *const answer_names[CALLS][MOST_NUMBERS] = {
     [OPEN] = {"refusal", "workers", "buckets", "last"},
     [START_LOOK] = {"refusal", "workers", "buckets", "last"},
     [START_INSERT] = {"refusal", "workers", "buckets", "last"},
     [START_REMOVE] = {"refusal", "workers", "buckets", "last"},
-    [TURN] = {"refusal", "action", "ended", "full", "answer"},
-    [RUN] = {"stop", "turns", "changes", "lost", "full"},
+    [TURN] = {"refusal", "action", "ended", "full", "answer", "bucket", "before", "after"},
+    [RUN] = {"stop", "turns", "changes", "lost", "full", "last action", "last ended", "last full", "last answer", "last bucket",
+        "last before", "last after"},
     [SHOW] = {"refusal", "start", "words"},
     [COUNT] = {"refusal", "lots"},
 };
@@ -58,11 +70,14 @@ static answer of_outcome(hall *h, desk_outcome o) {
 }
 
 static answer of_turn(desk_turn_outcome t) {
-    return (answer){{t.refusal, t.action, t.ended, t.full, t.answer}};
+    desk_report r = t.report;
+    return (answer){{t.refusal, r.action, r.ended, r.full, r.answer, r.bucket, r.before, r.after}};
 }
 
-static answer of_run(desk_run_outcome r) {
-    return (answer){{r.stop, r.totals.turns, r.totals.changes, r.totals.lost, r.totals.full}};
+static answer of_run(desk_run_outcome o) {
+    desk_totals t = o.totals;
+    desk_report r = o.last;
+    return (answer){{o.stop, t.turns, t.changes, t.lost, t.full, r.action, r.ended, r.full, r.answer, r.bucket, r.before, r.after}};
 }
 
 static answer of_count(desk_count_outcome c) {
@@ -99,7 +114,8 @@ static void compare_number(const char *name, size_t index, uint64_t desk, uint64
 }
 
 static void compare_answers(which w, const answer *desk, const answer *plain) {
-    for (size_t i = 0; i < 5 && answer_names[w][i]; i++) compare_number(answer_names[w][i], i, desk->number[i], plain->number[i]);
+    for (size_t i = 0; i < MOST_NUMBERS && answer_names[w][i]; i++)
+        compare_number(answer_names[w][i], i, desk->number[i], plain->number[i]);
 }
 
 static void compare_records(size_t i, const desk_worker *desk, const desk_worker *plain) {
@@ -147,13 +163,24 @@ void begin(pair *p, uint64_t seed, uint64_t history) {
     memcpy(&p->plain, &p->desk, sizeof p->plain);
 }
 
+/* the bucket and its two words are the last three of a report's seven numbers */
+static void note_report(which w, const uint64_t *report) {
+    elsewhere[w] += report[4] != 0;
+    changed[w] += report[5] != report[6];
+}
+
 static void note(const call *c, const answer *a, unsigned place) {
     met[c->which][a->number[0] % 10]++;
-    if (c->which == TURN && a->number[0] == 0 && place <= LAST_PLACE) places[place]++;
+    if (c->which == TURN) {
+        if (a->number[0] == 0 && place <= LAST_PLACE) places[place]++;
+        note_report(TURN, a->number + REPORT_OF_TURN);
+    }
     if (c->which == RUN) {
         changes += a->number[2];
         lost += a->number[3];
         full += a->number[4];
+        stopped_later += a->number[0] != 0 && a->number[1] != 0;
+        note_report(RUN, a->number + REPORT_OF_RUN);
     }
 }
 

@@ -148,22 +148,19 @@ desk_outcome plain_start_remove(const uint64_t *board, size_t words, desk_worker
 
 /* ---- one turn */
 
-static desk_turn_outcome refused(uint8_t refusal) {
-    return (desk_turn_outcome){.refusal = refusal};
-}
-
-static desk_turn_outcome goes_on(desk_worker *w, uint8_t action, uint8_t place) {
+/* what is reported of the bucket is taken in the same way at every place, so give_turn puts it in */
+static desk_report goes_on(desk_worker *w, uint8_t action, uint8_t place) {
     w->place = place;
-    return (desk_turn_outcome){.action = action};
+    return (desk_report){.action = action};
 }
 
-static desk_turn_outcome ends(desk_worker *w, uint8_t action, uint64_t answer) {
+static desk_report ends(desk_worker *w, uint8_t action, uint64_t answer) {
     *w = idle_record;
-    return (desk_turn_outcome){.action = action, .ended = true, .answer = answer};
+    return (desk_report){.action = action, .ended = true, .answer = answer};
 }
 
 /* a look call answers; an insert takes a slot, or commits the one it holds, or goes round once more where none is empty */
-static desk_turn_outcome look_is_empty(desk_worker *w) {
+static desk_report look_is_empty(desk_worker *w) {
     if (w->kind == LOOK) return ends(w, DESK_READ, 0);
     if (w->held != HOLDS_NONE) return goes_on(w, DESK_READ, 9);
     unsigned slot = first_empty(w->word);
@@ -173,28 +170,28 @@ static desk_turn_outcome look_is_empty(desk_worker *w) {
     }
     w->slot = 0;
     w->place = 1;
-    return (desk_turn_outcome){.action = DESK_READ, .full = true};
+    return (desk_report){.action = DESK_READ, .full = true};
 }
 
-static desk_turn_outcome look_finds(desk_worker *w) {
+static desk_report look_finds(desk_worker *w) {
     if (w->kind == LOOK) return ends(w, DESK_READ, w->seen);
     return w->held == HOLDS_NONE ? ends(w, DESK_READ, 0) : goes_on(w, DESK_READ, 10);
 }
 
-static desk_turn_outcome look_on(desk_worker *w) {
+static desk_report look_on(desk_worker *w) {
     if (w->slot == SLOTS - 1) return look_is_empty(w);
     w->slot++;
     return goes_on(w, DESK_READ, 2);
 }
 
-static desk_turn_outcome remove_on(desk_worker *w) {
+static desk_report remove_on(desk_worker *w) {
     if (w->slot == SLOTS - 1) return ends(w, DESK_READ, 0);
     w->slot++;
     return goes_on(w, DESK_READ, 11);
 }
 
 /* the record is busy and not broken, and the bucket is not broken */
-static desk_turn_outcome act(uint64_t *bucket, desk_worker *w) {
+static desk_report act(uint64_t *bucket, desk_worker *w) {
     switch (w->place) {
     case 1:
         w->word = bucket[MARKS];
@@ -241,43 +238,54 @@ static desk_turn_outcome act(uint64_t *bucket, desk_worker *w) {
     }
 }
 
-/* the sizes are right */
-static desk_turn_outcome give_turn(uint64_t *board, desk_worker *records, size_t workers, size_t buckets, size_t worker) {
-    if (worker >= workers) return refused(DESK_NO_WORKER);
+/* The sizes are right; answers the refusal, or 0. A refused turn leaves *report alone, so a run that lends one place keeps the last. */
+static uint8_t give_turn(uint64_t *board, desk_worker *records, const desk_floor *floor, size_t worker, desk_report *report) {
+    if (worker >= floor->workers) return DESK_NO_WORKER;
     desk_worker *w = &records[worker];
-    if (broken_record(w)) return refused(DESK_BROKEN_RECORD);
-    if (w->kind == IDLE) return refused(DESK_IDLE_WORKER);
-    uint64_t *bucket = board + bucket_start(w->key, buckets);
-    if (broken_bucket(bucket)) return refused(DESK_BROKEN_BUCKET);
-    return act(bucket, w);
+    if (broken_record(w)) return DESK_BROKEN_RECORD;
+    if (w->kind == IDLE) return DESK_IDLE_WORKER;
+    size_t number = w->key % floor->buckets;
+    uint64_t *bucket = board + BUCKET_WORDS * number;
+    if (broken_bucket(bucket)) return DESK_BROKEN_BUCKET;
+    uint64_t before = bucket[MARKS];
+    desk_report done = act(bucket, w);
+    done.bucket = number;
+    done.before = before;
+    done.after = bucket[MARKS];
+    *report = done;
+    return 0;
 }
 
 desk_turn_outcome plain_turn(uint64_t *board, size_t words, desk_worker *records, size_t listed, desk_floor floor, size_t worker) {
-    if (!hall_fits(words, listed, floor.workers, floor.buckets)) return refused(DESK_WRONG_SIZES);
-    return give_turn(board, records, floor.workers, floor.buckets, worker);
+    desk_turn_outcome turn = {.refusal = DESK_WRONG_SIZES};
+    if (hall_fits(words, listed, floor.workers, floor.buckets)) turn.refusal = give_turn(board, records, &floor, worker, &turn.report);
+    return turn;
 }
 
 /* ---- a run of turns */
 
 /* a store that ends a call is place 10's */
-static bool is_change(desk_turn_outcome turn) {
-    return turn.action == DESK_WON || (turn.action == DESK_STORE && turn.ended);
+static bool is_change(const desk_report *report) {
+    return report->action == DESK_WON || (report->action == DESK_STORE && report->ended);
+}
+
+static void add_up(desk_totals *totals, const desk_report *report) {
+    totals->turns++;
+    totals->changes += is_change(report);
+    totals->lost += report->action == DESK_LOST;
+    totals->full += report->full;
 }
 
 desk_run_outcome plain_run(uint64_t *board, size_t words, desk_worker *records, size_t listed, desk_floor floor,
     const uint8_t *turns, size_t count) {
-    desk_totals totals = {0};
-    if (!hall_fits(words, listed, floor.workers, floor.buckets)) return (desk_run_outcome){.totals = totals, .stop = DESK_WRONG_SIZES};
-    if (count > MOST_TURNS) return (desk_run_outcome){.totals = totals, .stop = DESK_TOO_LONG};
-    for (size_t i = 0; i < count; i++) {
-        desk_turn_outcome turn = give_turn(board, records, floor.workers, floor.buckets, turns[i]);
-        if (turn.refusal != 0) return (desk_run_outcome){.totals = totals, .stop = turn.refusal};
-        totals.turns++;
-        totals.changes += is_change(turn);
-        totals.lost += turn.action == DESK_LOST;
-        totals.full += turn.full;
+    desk_run_outcome run = {.last = {.action = DESK_READ}};
+    if (!hall_fits(words, listed, floor.workers, floor.buckets)) run.stop = DESK_WRONG_SIZES;
+    else if (count > MOST_TURNS) run.stop = DESK_TOO_LONG;
+    for (size_t i = 0; i < count && run.stop == 0; i++) {
+        run.stop = give_turn(board, records, &floor, turns[i], &run.last);
+        if (run.stop == 0) add_up(&run.totals, &run.last);
     }
-    return (desk_run_outcome){.totals = totals, .stop = 0};
+    return run;
 }
 
 /* ---- showing and counting */

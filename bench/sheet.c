@@ -92,11 +92,11 @@ static uint8_t play_call(const uint8_t *value, size_t size) {
 }
 
 /* of the stores, only the one that ends a call is a change */
-static void add_up(const desk_turn_outcome *turn) {
+static void add_up(const desk_report *report) {
     totals.turns++;
-    totals.changes += turn->action == DESK_WON || (turn->action == DESK_STORE && turn->ended);
-    totals.lost += turn->action == DESK_LOST;
-    totals.full += turn->full;
+    totals.changes += report->action == DESK_WON || (report->action == DESK_STORE && report->ended);
+    totals.lost += report->action == DESK_LOST;
+    totals.full += report->full;
 }
 
 static uint8_t play_turns(const uint8_t *value, size_t size) {
@@ -107,8 +107,8 @@ static uint8_t play_turns(const uint8_t *value, size_t size) {
         uint8_t kind = worker < listed ? records[worker].kind : 0;
         desk_turn_outcome turn = plain_turn(board, words, records, listed, floor, worker);
         if (turn.refusal != 0) return turn.refusal;
-        add_up(&turn);
-        if (turn.ended) put_end(worker, kind, turn.answer);
+        add_up(&turn.report);
+        if (turn.report.ended) put_end(worker, kind, turn.report.answer);
     }
     return 0;
 }

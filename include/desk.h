@@ -25,7 +25,7 @@
 /* The number of this interface, for `#if`. It goes up by one when a program that was written for it has to be looked at again: a
    struct has another layout, a function takes or answers something else, a constant stands for something else. Whoever upgrades compares
    it with the number that his program was written for. It has nothing to do with the version in a mark word. */
-#define DESK_VERSION 2
+#define DESK_VERSION 3
 
 /* ---- numbers */
 
@@ -141,14 +141,26 @@ typedef struct {
     uint8_t refusal;  /* DESK_DONE, or why it is refused */
 } desk_outcome;
 
-/* What a turn comes to. Where it is refused all else is 0. */
+/* What a turn that is done reports. `before` and `after` are the mark word of its bucket, whichever word of it the turn was about. On an
+   opened board the `before` of a turn is the `after` of the last turn before it in that bucket, whoever had it, or the opening's word; the
+   two of one turn differ just where it changed the mark word (a swap that was won, or a claimed slot given back). A swap is won where its
+   `before` is the `after` of its worker's last turn that read the mark word whole or changed it, and else lost; the last turn before a lost
+   swap whose two words differ, in that bucket, is another worker's, and the one that made it lose. */
 typedef struct {
     uint64_t answer; /* of a call that ended: a look's and a remove's is the lot's ticket, or 0 where the lot is not there; an
                         insert's is 1, or 0 where the lot is there already */
-    uint8_t refusal; /* DESK_DONE, or why it is refused */
+    uint64_t before; /* the mark word of the bucket before the turn */
+    uint64_t after;  /* and after it */
+    size_t bucket;   /* the number of the bucket of the worker's lot: 0 for the first */
     uint8_t action;  /* DESK_READ, DESK_STORE, DESK_WON or DESK_LOST */
     bool ended;      /* the call is over, and the worker idle again */
     bool full;       /* an insert found no empty slot and begins again */
+} desk_report;
+
+/* What a turn comes to. */
+typedef struct {
+    desk_report report; /* where the turn is refused, 0 and false everywhere */
+    uint8_t refusal;    /* DESK_DONE, or why it is refused */
 } desk_turn_outcome;
 
 /* What turns add up to. */
@@ -161,6 +173,7 @@ typedef struct {
 
 /* What a run comes to. */
 typedef struct {
+    desk_report last;   /* of the last turn that was done; where none was, a read that goes on (DESK_READ), and 0 and false elsewhere */
     desk_totals totals; /* of the turns before the one that was refused, or of all */
     uint8_t stop;       /* DESK_DONE, or why the run was refused or where it stopped */
 } desk_run_outcome;
@@ -203,7 +216,8 @@ desk_outcome desk_start_remove(const uint64_t *board, size_t words, desk_worker 
 desk_turn_outcome desk_turn(uint64_t *board, size_t words, desk_worker *records, size_t listed, desk_floor floor, size_t worker);
 
 /* Does `count` turns, each for the worker whose number stands in `turns`, and stops before the first that is refused; those before it
-   are done. It does not tell which turn ended a call: that worker is idle then, and a further turn for it stops the run. */
+   are done. It has the report of the last turn done, and not of those before: which turn ended a call it tells of the last one alone. A
+   worker whose call has ended is idle, and a further turn for it stops the run. */
 desk_run_outcome desk_run(uint64_t *board, size_t words, desk_worker *records, size_t listed, desk_floor floor,
     const uint8_t *turns, size_t count);
 

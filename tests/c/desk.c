@@ -1,6 +1,6 @@
 /* The library from C: every field where C reads it, the sleeper by single turns and by one run, a show and a count with the header's own
-   readers, what the screen shows of an insert turn by turn, every refusal (refusals.c), and a full round. Says what is not as it should
-   be, and how many checks were made. */
+   readers, what the screen shows of an insert turn by turn, what is reported (reports.c), every refusal (refusals.c), and a full round.
+   Says what is not as it should be, and how many checks were made. */
 #include "hall.h"
 #include <stdio.h>
 
@@ -30,8 +30,9 @@ static void test_layout(void) {
     desk_worker busy = {.key = 0x1122334455667701u, .word = 0x0000020000000007u, .seen = 0x99AA00BBCC00DDEEu, .ticket = 0x8899AABBu,
                         .kind = DESK_INSERT, .place = 8, .slot = 0, .held = 1};
     one.records[1] = busy;
+    desk_report stored = {.before = 0xFFFFFFFFu, .after = 0xFFFFFFFFu, .bucket = 1, .action = DESK_STORE};
     desk_turn_outcome t = turn(&one, 1);
-    CHECK(t.refusal == DESK_DONE && t.action == DESK_STORE && !t.ended && !t.full && t.answer == 0);
+    CHECK(t.refusal == DESK_DONE && same_report(t.report, stored));
     CHECK(one.board[8 + 2] == busy.key);
     busy.place = 9;
     CHECK(same_record(&one.records[1], &busy));
@@ -63,21 +64,29 @@ typedef struct {
     bool ends;
 } stretch;
 
-static void add_turn(desk_totals *sum, desk_turn_outcome t, uint8_t place) {
+static desk_report told[34]; /* by the single turns */
+
+static void add_turn(desk_totals *sum, desk_report r, bool change) {
     sum->turns++;
-    sum->changes += t.action == DESK_WON || (t.action == DESK_STORE && place == 10);
-    sum->lost += t.action == DESK_LOST;
-    sum->full += t.full;
+    sum->changes += change;
+    sum->lost += r.action == DESK_LOST;
+    sum->full += r.full;
 }
 
+/* there is one bucket, so each turn meets the word that the one before it left */
 static void play_singly(hall *h, stretch s, desk_totals *sum) {
     for (unsigned i = 0; i < s.turns; i++) {
         uint8_t place = h->records[s.worker].place;
         desk_turn_outcome t = turn(h, s.worker);
-        CHECK(t.refusal == DESK_DONE && t.action >= DESK_READ && t.action <= DESK_LOST);
-        CHECK(t.ended == (s.ends && i + 1 == s.turns));
-        CHECK(t.answer == (t.ended ? s.answer : 0));
-        add_turn(sum, t, place);
+        desk_report r = t.report;
+        bool change = r.action == DESK_WON || (r.action == DESK_STORE && place == 10);
+        CHECK(t.refusal == DESK_DONE && r.action >= DESK_READ && r.action <= DESK_LOST);
+        CHECK(r.ended == (s.ends && i + 1 == s.turns));
+        CHECK(r.answer == (r.ended ? s.answer : 0));
+        CHECK(r.bucket == 0 && r.before == (sum->turns == 0 ? 0 : told[sum->turns - 1].after));
+        CHECK((r.before != r.after) == change);
+        told[sum->turns] = r;
+        add_turn(sum, r, change);
     }
 }
 
@@ -89,6 +98,7 @@ static void play_as_run(hall *h, stretch s, desk_totals *sum) {
     sum->changes += r.totals.changes;
     sum->lost += r.totals.lost;
     sum->full += r.totals.full;
+    CHECK(same_report(r.last, told[sum->turns - 1]));
 }
 
 static void sleeper(hall *h, void (*play)(hall *, stretch, desk_totals *)) {
@@ -119,12 +129,25 @@ static void sleeper_in_one_run(hall *h) {
     opened(h, 4, 1, 0);
     CHECK(start_insert(h, 0, 7, 1) == DESK_DONE && start_remove(h, 1, 7) == DESK_DONE);
     CHECK(start_remove(h, 2, 7) == DESK_DONE && start_insert(h, 3, 7, 2) == DESK_DONE);
-    CHECK(counts(run(h, turns, 34), 34, 6, 1, 0, 0));
+    desk_run_outcome r = run(h, turns, 34);
+    CHECK(counts(r, 34, 6, 1, 0, 0) && same_report(r.last, told[33]));
     for (size_t i = 0; i < 4; i++) CHECK(h->records[i].kind == DESK_IDLE && h->records[i].held == DESK_NO_SLOT);
+}
+
+/* why worker 1's swap is lost: it goes by the word of its first turn, the twelfth of all, and in the thirtieth meets another, which has the
+   same marks; its second swap, the last turn, meets the word that it then read */
+static void why_lost(void) {
+    desk_report read = {.before = 4294967297u, .after = 4294967297u, .action = DESK_READ};
+    desk_report lost = {.before = 4294967298u, .after = 4294967298u, .action = DESK_LOST};
+    desk_report won = {.answer = 2, .before = 4294967298u, .after = 2, .action = DESK_WON, .ended = true};
+    CHECK(same_report(told[11], read));
+    CHECK(same_report(told[29], lost));
+    CHECK(same_report(told[33], won));
 }
 
 static void test_sleeper(void) {
     sleeper(&one, play_singly);
+    why_lost();
     sleeper(&two, play_as_run);
     CHECK(same_hall(&one, &two));
     sleeper_in_one_run(&two);
@@ -173,8 +196,8 @@ static void test_readers(void) {
     for (uint32_t slot = 0; slot < DESK_SLOTS; slot++) {
         CHECK(start_insert(&one, 0, 11 + 2 * slot, 100 + slot) == DESK_DONE);
         desk_turn_outcome t = {0};
-        while (t.refusal == DESK_DONE && !t.ended && (slot < 2 || one.records[0].place != 9)) t = turn(&one, 0);
-        CHECK(t.refusal == DESK_DONE && t.ended == (slot < 2));
+        while (t.refusal == DESK_DONE && !t.report.ended && (slot < 2 || one.records[0].place != 9)) t = turn(&one, 0);
+        CHECK(t.refusal == DESK_DONE && t.report.ended == (slot < 2));
     }
     const uint64_t *bucket = one.board + desk_show(one.board, one.words, one.floor, 11).start;
     uint64_t word = bucket[DESK_AT_MARK];
@@ -208,34 +231,34 @@ static void stopped_insert(hall *h) {
     opened(h, 2, 1, 0);
     CHECK(start_insert(h, 0, 7, 1) == DESK_DONE);
     for (unsigned i = 1; i <= 7; i++) {
-        CHECK(!turn(h, 0).ended);
+        CHECK(!turn(h, 0).report.ended);
         screen(h, DESK_MARK_EMPTY, 0);
     }
-    CHECK(turn(h, 0).action == DESK_WON && h->board[0] == 8589934592u);
+    CHECK(turn(h, 0).report.action == DESK_WON && h->board[0] == 8589934592u);
     screen(h, DESK_MARK_INSERTING, 0);
     CHECK(start_look(h, 1, 7) == DESK_DONE);
     for (unsigned i = 1; i <= 6; i++) {
         desk_turn_outcome t = turn(h, 1);
-        CHECK(t.refusal == DESK_DONE && t.ended == (i == 6) && t.answer == 0);
+        CHECK(t.refusal == DESK_DONE && t.report.ended == (i == 6) && t.report.answer == 0);
         screen(h, DESK_MARK_INSERTING, 0);
     }
     for (unsigned i = 9; i <= 10; i++) {
-        CHECK(turn(h, 0).action == DESK_STORE);
+        CHECK(turn(h, 0).report.action == DESK_STORE);
         screen(h, DESK_MARK_INSERTING, 0);
     }
-    desk_turn_outcome t = turn(h, 0);
-    CHECK(t.ended && t.answer == 1);
+    desk_report r = turn(h, 0).report;
+    CHECK(r.ended && r.answer == 1);
     screen(h, DESK_MARK_VALID, 1);
 }
 
-/* turns of worker 0, so many at most while its call goes on, with so many lots on the screen before each; the last one's outcome */
-static desk_turn_outcome go_on(hall *h, unsigned turns, size_t lots) {
-    desk_turn_outcome t = {0};
-    for (unsigned i = 0; i < turns && !t.ended; i++) {
+/* turns of worker 0, so many at most while its call goes on, with so many lots on the screen before each; the last one's report */
+static desk_report go_on(hall *h, unsigned turns, size_t lots) {
+    desk_report r = {0};
+    for (unsigned i = 0; i < turns && !r.ended; i++) {
         CHECK(counted(h) == lots);
-        t = turn(h, 0);
+        r = turn(h, 0).report;
     }
-    return t;
+    return r;
 }
 
 /* three lots have their bids, and the fourth has its slot and no bid yet: the screen has three, and four with its commit */
@@ -264,20 +287,21 @@ static void test_full_round(void) {
     opened(&one, 1, 1, 0);
     for (uint32_t ticket = 1; ticket <= 3; ticket++) {
         CHECK(start_insert(&one, 0, 10 + ticket, ticket) == DESK_DONE);
-        desk_turn_outcome t = {0};
-        for (unsigned i = 0; i < 20 && !t.ended; i++) t = turn(&one, 0);
-        CHECK(t.ended && t.answer == 1);
+        desk_report r = {0};
+        for (unsigned i = 0; i < 20 && !r.ended; i++) r = turn(&one, 0).report;
+        CHECK(r.ended && r.answer == 1);
     }
     CHECK(counted(&one) == 3);
     CHECK(start_insert(&one, 0, 20, 4) == DESK_DONE);
     copy_hall(&two, &one);
     for (unsigned i = 0; i < 10; i++) {
         desk_turn_outcome t = turn(&one, 0);
-        CHECK(t.refusal == DESK_DONE && t.action == DESK_READ && t.full == (i == 9) && !t.ended);
+        CHECK(t.refusal == DESK_DONE && t.report.action == DESK_READ && t.report.full == (i == 9) && !t.report.ended);
         many[i] = 0;
     }
     CHECK(one.records[0].place == 1);
-    CHECK(counts(run(&two, many, 10), 10, 0, 0, 1, 0));
+    desk_run_outcome r = run(&two, many, 10);
+    CHECK(counts(r, 10, 0, 0, 1, 0) && r.last.full);
     CHECK(same_hall(&one, &two));
 }
 
@@ -335,6 +359,7 @@ int main(void) {
     test_buckets_of_lots();
     test_readers();
     test_screen();
+    test_reports();
     test_refusals();
     test_full_round();
     test_lengths();

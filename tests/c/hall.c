@@ -1,7 +1,14 @@
 #include "hall.h"
 
 hall one, two, before;
+static hall singly;
 uint8_t many[ROOM_FOR_TURNS];
+const desk_report refused_report = {.action = DESK_NONE}, no_turn = {.action = DESK_READ};
+
+bool same_report(desk_report a, desk_report b) {
+    return a.answer == b.answer && a.before == b.before && a.after == b.after && a.bucket == b.bucket && a.action == b.action &&
+           a.ended == b.ended && a.full == b.full;
+}
 
 bool same_record(const desk_worker *a, const desk_worker *b) {
     return a->key == b->key && a->word == b->word && a->seen == b->seen && a->ticket == b->ticket && a->kind == b->kind &&
@@ -62,12 +69,31 @@ uint8_t start_remove(hall *h, size_t worker, uint64_t lot) {
     return kept(h, desk_start_remove(h->board, h->words, h->records, h->listed, h->floor, worker, lot));
 }
 
+/* 0 for a bucket that is past the room, as the sizes that are refused can lead to one */
+static uint64_t mark_word(const hall *h, size_t bucket) {
+    return bucket < ROOM_FOR_BUCKETS ? h->board[DESK_BUCKET_WORDS * bucket + DESK_AT_MARK] : 0;
+}
+
 desk_turn_outcome turn(hall *h, size_t worker) {
-    return desk_turn(h->board, h->words, h->records, h->listed, h->floor, worker);
+    size_t bucket = worker < h->listed ? desk_bucket(h->records[worker].key, h->floor.buckets) : 0;
+    uint64_t stood = mark_word(h, bucket);
+    desk_turn_outcome t = desk_turn(h->board, h->words, h->records, h->listed, h->floor, worker);
+    if (t.refusal == DESK_DONE) {
+        CHECK(t.report.bucket == bucket);
+        CHECK(t.report.before == stood && t.report.after == mark_word(h, bucket));
+    }
+    return t;
 }
 
 desk_run_outcome run(hall *h, const uint8_t *turns, size_t count) {
-    return desk_run(h->board, h->words, h->records, h->listed, h->floor, turns, count);
+    copy_hall(&singly, h);
+    desk_run_outcome r = desk_run(h->board, h->words, h->records, h->listed, h->floor, turns, count);
+    desk_report last = no_turn;
+    for (size_t i = 0; i < count && i < r.totals.turns; i++)
+        last = desk_turn(singly.board, singly.words, singly.records, singly.listed, singly.floor, turns[i]).report;
+    CHECK(same_report(r.last, last));
+    CHECK(same_hall(h, &singly));
+    return r;
 }
 
 bool counts(desk_run_outcome r, uint32_t turns, uint32_t changes, uint32_t lost, uint32_t full, uint8_t stop) {

@@ -1,5 +1,5 @@
 /* A hall: a floor with the board and the records that belong to it, and the library's calls on it. For the program that checks them, which
-   is desk.c and refusals.c. */
+   is desk.c, reports.c and refusals.c. */
 #ifndef HALL_H
 #define HALL_H
 
@@ -23,6 +23,10 @@ extern uint8_t many[ROOM_FOR_TURNS];
 void check(bool holds, const char *what, const char *file, int line);
 #define CHECK(holds) check((holds), #holds, __FILE__, __LINE__)
 
+/* What a refused turn reports, and what a run keeps that did no turn. */
+extern const desk_report refused_report, no_turn;
+
+bool same_report(desk_report a, desk_report b);
 bool same_record(const desk_worker *a, const desk_worker *b);
 bool same_hall(const hall *a, const hall *b);
 void copy_hall(hall *to, const hall *from);
@@ -32,7 +36,8 @@ void fill(hall *h);
 /* A hall that was filled and then opened. */
 void opened(hall *h, size_t workers, size_t buckets, uint32_t version);
 
-/* The calls; each keeps the floor that comes back. */
+/* The calls; each keeps the floor that comes back. Of a turn that is done the report's bucket is held to the lot, and its two words to the
+   board; of a run the last report and all that it leaves to the same turns one by one. */
 uint8_t open_hall(hall *h, size_t workers, size_t buckets, uint32_t version);
 uint8_t start_look(hall *h, size_t worker, uint64_t lot);
 uint8_t start_insert(hall *h, size_t worker, uint64_t lot, uint32_t ticket);
@@ -43,7 +48,8 @@ desk_run_outcome run(hall *h, const uint8_t *turns, size_t count);
 /* Whether a run came to these numbers. */
 bool counts(desk_run_outcome r, uint32_t turns, uint32_t changes, uint32_t lost, uint32_t full, uint8_t stop);
 
-/* The checks of refusals.c. */
+/* The checks of reports.c and of refusals.c. */
+void test_reports(void);
 void test_refusals(void);
 
 #endif

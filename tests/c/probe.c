@@ -158,12 +158,18 @@ static void outcome(const char *name, desk_outcome o) {
     floor = o.floor;
 }
 
+static void report_out(desk_report r) {
+    printf(" %x %x %lx %x %lx %lx %lx", r.action, r.ended, r.answer, r.full, r.bucket, r.before, r.after);
+}
+
 static void turn_outcome(desk_turn_outcome t) {
-    printf("turn %x %x %x %lx %x", t.refusal, t.action, t.ended, t.answer, t.full);
+    printf("turn %x", t.refusal);
+    report_out(t.report);
 }
 
 static void run_outcome(desk_run_outcome r) {
     printf("run %x %x %x %x %x", r.stop, r.totals.turns, r.totals.changes, r.totals.lost, r.totals.full);
+    report_out(r.last);
 }
 
 static void show_outcome(uint64_t lot) {

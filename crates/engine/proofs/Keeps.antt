@@ -11,6 +11,7 @@ use lib.ListN.{length, getD}
 use borrow.Author.Tests.{eqb-true, leb-false}
 use Rattle.mark.proofs.Choices.{by-cases, passes}
 use Rattle.turn.specs.declared.Worker.{Worker}
+use Rattle.turn.specs.declared.Report.{Report}
 use Rattle.turn.specs.Worker.{broken}
 use Rattle.turn.specs.Bucket.{cell, brokenBucket}
 use Rattle.turn.specs.Places.{rows, stays, turn}
@@ -128,8 +129,8 @@ module _ (board : List ℕ) (b : ℕ) (w : Worker) (ok : Accepted (bucketAt boar
       rw (own, same-bucket board b left within eight) (whole-not-broken left (turn-whole (bucketAt board b) w ok))
   done-buckets c (no other) whole = rw (other-bucket board b left within eight c other) whole
 
-  done-keeps : Keeps board b w (after (withBucket board b left) (doing (turn (bucketAt board b) w)))
-  done-keeps =
+  done-keeps : (report : Report) → Keeps board b w (after (withBucket board b left) (doing (turn (bucketAt board b) w) report))
+  done-keeps report =
       record {
         long = with-long board b left as-long;
         words = done-words;
@@ -149,7 +150,7 @@ module _ (f : Floor) (board : List ℕ) (w : Worker) where
   unfolding turned
   turned-keeps n ok =
       by-cases (Keeps board (own f w) w) (eqb n 0) _ _
-      (λ is. done-keeps board (own f w) w (ok (eqb-true n 0 is))) (λ isnot. refused-keeps board (own f w) n w)
+      (λ is. done-keeps board (own f w) w (ok (eqb-true n 0 is)) _) (λ isnot. refused-keeps board (own f w) n w)
 
   -- each turn of a run
   pub each-keeps : (i : ℕ) → Keeps board (own f w) w (turned (eachNumber f board i w) f board w)

@@ -6,6 +6,7 @@ pub mod Keeps
 pub mod Numbers
 pub mod Parts
 pub mod Refused
+pub mod Reports
 pub mod Sizes
 pub mod Stops
 pub mod Tallies

@@ -12,7 +12,7 @@ use Rattle.engine.specs.declared.Plan.{Plan}
 use Rattle.engine.specs.declared.Seat.{Seat}
 use Rattle.engine.specs.declared.Counted.the-variants.{Refusal}
 use Rattle.engine.specs.Refusals.{openNumber, startNumber, turnNumber, runNumber, showNumber, countNumber}
-use Rattle.engine.specs.Calls.{planned, openCall, startCall, turned, turnCall, standing, noTurns, runCall, showCall, countCall}
+use Rattle.engine.specs.Calls.{planned, openCall, startCall, turned, turnCall, unbegun, runCall, showCall, countCall}
 
 -- a number other than 0 chooses the refusal
 refuses : {A : Type 0} (n : ℕ) (accepted refused : A) → (n ≡ 0 → ⊥) → cond (eqb n 0) accepted refused ≡ refused
@@ -32,7 +32,7 @@ module _ (board : List ℕ) (f : Floor) (records : List Worker) (listed : ℕ) w
   pub run-refused :
       (turns : List ℕ)
       → (runNumber f board listed turns ≡ 0 → ⊥)
-      → runCall board f records listed turns ≡ standing board records noTurns (runNumber f board listed turns)
+      → runCall board f records listed turns ≡ unbegun board records (runNumber f board listed turns)
   unfolding runCall
   run-refused turns = refuses _ _ _
 

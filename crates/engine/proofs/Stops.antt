@@ -13,7 +13,7 @@ use Rattle.turn.specs.Turn.{After}
 use Rattle.engine.specs.declared.Floor.{Floor}
 use Rattle.engine.specs.declared.Seat.{Seat}
 use Rattle.engine.specs.Refusals.{bucketFor, wrongSizes, eachNumber, turnNumber}
-use Rattle.engine.specs.Calls.{Ran, turnDone, turned, turnCall, standing, blank, tallied, runFrom}
+use Rattle.engine.specs.Calls.{Ran, reportOn, turnDone, turned, turnCall, standing, blank, tallied, runFrom}
 
 -- the record of the worker whose turn it is
 abbrev pub mover : ℕ → After Ran → Worker
@@ -27,9 +27,11 @@ module _ (f : Floor) where
   -- the turn of worker t is done: it is the place table's, and it is counted
   abbrev pub doneBy : ℕ → After Ran → After Ran
   doneBy t s =
-      let step = turn (bucketFor f (s .words) (mover t s .key)) (mover t s) in
-      standing (turnDone f (s .words) (mover t s) step .words) (set (s .handed .records) t (step .stepped .worker))
-      (tallied (mover t s .place) (step .stepped .report) (s .handed .totals)) 0
+      let w = mover t s in
+      let step = turn (bucketFor f (s .words) (w .key)) w in
+      let report = reportOn f (s .words) w step in
+      standing (turnDone f (s .words) w step .words) (set (s .handed .records) t (step .stepped .worker))
+      (tallied (w .place) report (s .handed .totals)) report 0
 
   -- the turns of a list are done, one after another
   abbrev pub doneAll : List ℕ → After Ran → After Ran
@@ -60,7 +62,7 @@ module _ (f : Floor) where
   pub next-refused :
       (t : ℕ) (ts : List ℕ) (s : After Ran)
       → (numberAt t s ≡ 0 → ⊥)
-      → runFrom f (t ∷ ts) s ≡ standing (s .words) (s .handed .records) (s .handed .totals) (numberAt t s)
+      → runFrom f (t ∷ ts) s ≡ standing (s .words) (s .handed .records) (s .handed .totals) (s .handed .last) (numberAt t s)
   unfolding runFrom turned
   next-refused t ts s some = rw (ne-eqb _ 0 some)
 
@@ -70,7 +72,8 @@ module _ (f : Floor) where
       → AllDone ts s
       → (numberAt t (doneAll ts s) ≡ 0 → ⊥)
       → let so-far = doneAll ts s in
-      runFrom f (ts ++ t ∷ rest) s ≡ standing (so-far .words) (so-far .handed .records) (so-far .handed .totals) (numberAt t so-far)
+      runFrom f (ts ++ t ∷ rest) s
+      ≡ standing (so-far .words) (so-far .handed .records) (so-far .handed .totals) (so-far .handed .last) (numberAt t so-far)
   run-stops ts t rest s all some = run-goes ts (t ∷ rest) s all ∙ next-refused t rest (doneAll ts s) some
 
   -- a run of which no turn is refused does them all

@@ -12,7 +12,7 @@ use Rattle.turn.specs.Places.{Step, turn}
 use Rattle.engine.specs.declared.Floor.{Floor}
 use Rattle.engine.specs.Board.{bucketOf, bucketAt, withBucket}
 use Rattle.engine.specs.Refusals.{bucketFor}
-use Rattle.engine.specs.Calls.{tried, turned, turnDone}
+use Rattle.engine.specs.Calls.{reportOn, tried, turned, turnDone}
 use Rattle.engine.proofs.Parts.{part-at, put-at, put-same}
 
 -- the number of the bucket of a worker's lot
@@ -31,26 +31,32 @@ module _ (f : Floor) (board : List ℕ) (w : Worker) where
   abbrev bucket : List ℕ
   bucket = bucketAt board (own f w)
 
+  -- a turn that is done on the worker's bucket, as it is tried
+  abbrev there : Tried
+  there = done (turn bucket w .stepped .worker) (reportOn f board w (turn bucket w)) (w .place)
+
   both :
       (t : Bool)
-      → onBoard board (own f w) (cond t (after (turn bucket w .bucket) (done (turn bucket w .stepped) (w .place))) (after bucket (refused number w)))
-      ≡ cond t (after (turnDone f board w (turn bucket w) .words) (done (turn bucket w .stepped) (w .place))) (after board (refused number w))
+      → onBoard board (own f w) (cond t (after (turn bucket w .bucket) there) (after bucket (refused number w)))
+      ≡ cond t (after (turnDone f board w (turn bucket w) .words) there) (after board (refused number w))
   both true = refl
   both false = ap (λ (l : List ℕ). after l (refused number w)) (put-same board (own f w))
 
-  try-on-board : onBoard board (own f w) (tryTurn bucket w) ≡ tried number f board w
+  try-on-board : onBoard board (own f w) (tryTurn (own f w) bucket w) ≡ tried number f board w
   unfolding tryTurn tried
   try-on-board = both (eqb number 0)
 
   -- the part is lent from the bucket's first word on, and comes back with what the turn left there
   pub turn-on :
-      (at : ℕ) (p : List ℕ) (r : Tried)
-      → at ≡ 8 * own f w
-      → after p r ≡ tryTurn (take (at + 8 - at) (drop at board)) w
+      (b : ℕ) (p : List ℕ) (r : Tried)
+      → b ≡ own f w
+      → let at = 8 * b in
+      after p r ≡ tryTurn b (take (at + 8 - at) (drop at board)) w
       → after (take at board ++ (p ++ drop (at + 8 - at) (drop at board))) r ≡ tried number f board w
-  turn-on at p r start e =
-      ap (λ (l : List ℕ). after l r) (put-at board at (own f w) start p)
-      ∙ ap (onBoard board (own f w)) (e ∙ ap (λ (l : List ℕ). tryTurn l w) (part-at board at (own f w) start))
+  turn-on b p r is e =
+      ap (λ (l : List ℕ). after l r) (put-at board (8 * b) (own f w) (ap (λ n. 8 * n) is) p)
+      ∙ ap (onBoard board (own f w)) (e ∙ ap (λ (l : List ℕ). tryTurn b l w) (part-at board (8 * b) (own f w) (ap (λ n. 8 * n) is))
+      ∙ ap (λ n. tryTurn n bucket w) is)
       ∙ try-on-board
 
 -- a turn that was tried, with its answer
@@ -65,7 +71,7 @@ module _ (n : ℕ) (f : Floor) (board : List ℕ) (w : Worker) where
   either-way :
       (t : Bool)
       → eqb n 0 ≡ t
-      → answering (cond t (after (turnDone f board w step .words) (done (step .stepped) (w .place))) (after board (refused n w)))
+      → answering (cond t (after (turnDone f board w step .words) (there f board w)) (after board (refused n w)))
       ≡ cond t (turnDone f board w step) (after board (refusing n w))
   either-way true is = refl
   either-way false isnot = rw isnot

@@ -12,7 +12,7 @@ use Rattle.turn.specs.declared.Report.{Report}
 use Rattle.turn.specs.Worker.{freePlace, idle, lookFor, insertOf, removeOf}
 use Rattle.turn.specs.Places.{Step, turn}
 use Rattle.turn.specs.declared.Tried.{Tried}
-use Rattle.turn.specs.Turn.{Answer, Refused, Done, Turned, After, after, refusing, doing, refused, done}
+use Rattle.turn.specs.Turn.{Answer, Refused, Done, Turned, After, after, reportOf, refusing, doing, noReport, refused, done}
 use Rattle.engine.specs.declared.Floor.{Floor}
 use Rattle.engine.specs.declared.Plan.{Plan}
 use Rattle.engine.specs.declared.Bid.{Bid}
@@ -81,9 +81,13 @@ removeCall board s w lot = startCall board s w false (removeOf lot) (s .floor)
 
 -- ---- turn
 
+-- §4.12: what a step of a worker on the bucket of its lot reports
+abbrev pub reportOn : Floor → List ℕ → Worker → Step → Report
+reportOn f board w s = reportOf (bucketOf (w .key) (f .buckets)) (bucketFor f board (w .key)) s
+
 -- §4.1: a turn that is done is the place table's, on the bucket where the worker's lot belongs
 abbrev pub turnDone : Floor → List ℕ → Worker → Step → After Turned
-turnDone f board w s = after (withBucket board (bucketOf (w .key) (f .buckets)) (s .bucket)) (doing s)
+turnDone f board w s = after (withBucket board (bucketOf (w .key) (f .buckets)) (s .bucket)) (doing s (reportOn f board w s))
 
 -- §7.1: what a turn with this number of refusal, or 0, comes to
 unfoldable pub turned : ℕ → Floor → List ℕ → Worker → After Turned
@@ -93,7 +97,9 @@ turned number f board w = cond (eqb number 0) (turnDone f board w (turn (bucketF
 unfoldable pub tried : ℕ → Floor → List ℕ → Worker → After Tried
 tried number f board w =
     let s = turn (bucketFor f board (w .key)) w in
-    cond (eqb number 0) (after (turnDone f board w s .words) (done (s .stepped) (w .place))) (after board (refused number w))
+    cond (eqb number 0)
+    (after (turnDone f board w s .words) (done (s .stepped .worker) (reportOn f board w s) (w .place)))
+    (after board (refused number w))
 
 -- one turn, so
 unfoldable pub tryCall : List ℕ → Seat → Worker → After Tried
@@ -145,11 +151,16 @@ noTurns = record { turns = 0; changes = 0; lost = 0; full = 0 }
 pub record Ran : Type 0 where
   pub records : List Worker
   pub totals : Totals
+  pub last : Report
   pub stop : ℕ
 
--- how a run stands: what it has left so far, what it has counted, and the number that stopped it, or 0
-abbrev pub standing : List ℕ → List Worker → Totals → ℕ → After Ran
-standing board records totals stop = after board (record { records = records; totals = totals; stop = stop })
+-- how a run stands: what it has left so far, what it has counted, its last turn's report, and the number that stopped it, or 0
+abbrev pub standing : List ℕ → List Worker → Totals → Report → ℕ → After Ran
+standing board records totals last stop = after board (record { records = records; totals = totals; last = last; stop = stop })
+
+-- §4.13: a run that has done no turn, also one that is refused as a whole, has counted nothing and has the report of none
+abbrev pub unbegun : List ℕ → List Worker → ℕ → After Ran
+unbegun board records stop = standing board records noTurns noReport stop
 
 -- what stands for a record past the end of the list, whose worker has no turn (decision 40)
 abbrev pub blank : Worker
@@ -165,8 +176,8 @@ seatIn f records i = record { floor = f; listed = length records; worker = i }
 
 -- §4.10: what the turn of worker t came to: the run goes on from there, or it stops and leaves what was done before
 abbrev pub goOn : (After Ran → After Ran) → ℕ → ℕ → List ℕ → Worker → Answer → Ran → After Ran
-goOn rest t place board w (Refused number) r = standing board (r .records) (r .totals) number
-goOn rest t place board w (Done report) r = rest (standing board (set (r .records) t w) (tallied place report (r .totals)) 0)
+goOn rest t place board w (Refused number) r = standing board (r .records) (r .totals) (r .last) number
+goOn rest t place board w (Done report) r = rest (standing board (set (r .records) t w) (tallied place report (r .totals)) report 0)
 
 -- one turn of worker t, and then the rest
 abbrev pub oneTurn : (After Ran → After Ran) → Floor → ℕ → Worker → After Ran → After Ran
@@ -183,8 +194,8 @@ runFrom f (t ∷ ts) s = oneTurn (runFrom f ts) f t (recordIn (s .handed .record
 unfoldable pub runCall : List ℕ → Floor → List Worker → ℕ → List ℕ → After Ran
 runCall board f records listed turns =
     cond (eqb (runNumber f board listed turns) 0)
-    (runFrom f turns (standing board records noTurns 0))
-    (standing board records noTurns (runNumber f board listed turns))
+    (runFrom f turns (unbegun board records 0))
+    (unbegun board records (runNumber f board listed turns))
 
 -- ---- show and count
 

@@ -13,13 +13,21 @@ use crate::Floor;
 use turn::bucket;
 use turn::refusal;
 
-// §2.3, §2.4: where the bucket of a lot starts.
+// §2.4: the number of the bucket of a lot.
+pub fn bucket_of(lot: u64, buckets: usize) -> usize
+    requires { ⌜ (1 ≤ buckets) × (buckets ≤ 256) ⌝ }
+    ensures { λ r. ⌜ (r ≡ bucketOf lot buckets) × (r + 1 ≤ buckets) ⌝ }
+{
+    let b = lot % (buckets as u64);
+    b as usize
+}
+
+// §2.3: where the bucket of a lot starts.
 pub fn first_word(lot: u64, buckets: usize) -> usize
     requires { ⌜ (1 ≤ buckets) × (buckets ≤ 256) ⌝ }
     ensures { λ r. ⌜ (r ≡ 8 * bucketOf lot buckets) × (r + 8 ≤ 8 * buckets) ⌝ }
 {
-    let b = lot % (buckets as u64);
-    8 * (b as usize)
+    8 * bucket_of(lot, buckets)
 }
 
 // §6.7: whether a lot has a broken bucket.

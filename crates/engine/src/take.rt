@@ -14,6 +14,7 @@ pub fn turn(board: &mut [u64], floor: Floor, w: Worker) -> Tried
     requires { ⌜ Right floor (now board) ⌝ }
     ensures { λ r. ⌜ after (now (board .exit)) r ≡ tried (turnRefusal (bucketFor floor (now (board .entry)) (w .key)) w) floor (now (board .entry)) w ⌝ }
 {
-    let at = lots::first_word(w.key, floor.buckets);
-    turn::try_turn(&mut board[at..at + 8], w)
+    let bucket = lots::bucket_of(w.key, floor.buckets);
+    let at = 8 * bucket;
+    turn::try_turn(&mut board[at..at + 8], bucket, w)
 }

@@ -5,13 +5,14 @@ use Prim.Native.Nat.{ℕ}
 use mathlib.Core.Path.{_≡_, ap}
 use mathlib.Core.List.{List}
 use Rattle.turn.specs.declared.Worker.{Worker}
+use Rattle.turn.specs.Turn.{After, after}
 use Rattle.mark.proofs.OneAnswer.{one-answer}
 use Rattle.turn.proofs.OneOutcome.{one-outcome}
 use Rattle.engine.specs.declared.Floor.{Floor}
 use Rattle.engine.specs.declared.Plan.{Plan}
 use Rattle.engine.specs.declared.Seat.{Seat}
 use Rattle.engine.specs.declared.Started.{Started}
-use Rattle.engine.specs.Calls.{Opened, Ran}
+use Rattle.engine.specs.Calls.{Opened}
 use Rattle.floor.specs.declared.Outcome.{Outcome}
 use Rattle.floor.specs.declared.TurnOutcome.{TurnOutcome}
 use Rattle.floor.specs.declared.RunOutcome.{RunOutcome}
@@ -23,6 +24,14 @@ use Rattle.floor.specs.Promises.{FloorOpened, StartLeft, TurnLeft, RunLe
 -- a list with an answer, taken apart
 apart : {A : Type 0} {one two : List Worker} {r t : A} → onList one r ≡ onList two t → (one ≡ two) × (r ≡ t)
 apart {A} e = (ap (λ (y : OnList A). y .records) e, ap (λ (y : OnList A). y .answer) e)
+
+-- a board with a list and an answer, of two outcomes that are promised to be the same
+both-apart :
+    {A : Type 0} {b c : List ℕ} {one two : List Worker} {r t : A} {promised : After (OnList A)}
+    → after b (onList one r) ≡ promised
+    → after c (onList two t) ≡ promised
+    → (b ≡ c) × (one ≡ two) × (r ≡ t)
+both-apart p q = let e = one-outcome p q in let h = apart (e .1) in (e .0, h .0, h .1)
 
 -- an opening: the board, the list, and the floor with the number
 pub desk-open-determined :
@@ -49,18 +58,15 @@ pub desk-turn-determined :
     → TurnLeft board records f i b one r
     → TurnLeft board records f i c two t
     → (b ≡ c) × (one ≡ two) × (r ≡ t)
-desk-turn-determined board records f i b c one two r t p q =
-    let e = one-outcome (p .whole) (q .whole) in let h = apart (e .1) in (e .0, h .0, h .1)
+desk-turn-determined board records f i b c one two r t p q = both-apart (p .whole) (q .whole)
 
--- a run: the board, the list, and the totals with the number
+-- a run: the board, the list, and what it tells
 pub desk-run-determined :
     (board : List ℕ) (records : List Worker) (f : Floor) (turns b c : List ℕ) (one two : List Worker) (r t : RunOutcome)
     → RunLeft board records f turns b one r
     → RunLeft board records f turns c two t
     → (b ≡ c) × (one ≡ two) × (r ≡ t)
-desk-run-determined board records f turns b c one two r t p q =
-    let e = one-outcome (p .whole) (q .whole) in
-    (e .0, ap (λ (y : Ran). y .records) (e .1), λ i. record { totals = e .1 i .totals; stop = e .1 i .stop })
+desk-run-determined board records f turns b c one two r t p q = both-apart (p .whole) (q .whole)
 
 -- a show to C: the words that are meant
 pub desk-show-determined : (board : List ℕ) (f : Floor) (lot : ℕ) (p q : Part) → PartShown board f lot p → PartShown board f lot q → p ≡ q

@@ -12,19 +12,20 @@ use borrow.Author.Tests.{eqb-true, eqb-false, lt-ltb, ltb-false}
 use Rattle.mark.proofs.Choices.{passes, by-cases}
 use Rattle.turn.specs.declared.Worker.{Worker}
 use Rattle.turn.specs.declared.Said.{Said}
+use Rattle.turn.specs.declared.Report.{Report}
 use Rattle.turn.specs.declared.Tried.{Tried}
-use Rattle.turn.specs.Turn.{After, after, refused, done}
-use Rattle.turn.specs.Places.{turn}
+use Rattle.turn.specs.Turn.{After, after, noReport, refused, done}
+use Rattle.turn.specs.Places.{Step, turn}
 use Rattle.engine.specs.declared.Floor.{Floor}
 use Rattle.engine.specs.Refusals.{wrongSizes, bucketFor, eachNumber, turnNumber, runRefusal, runNumber}
 use Rattle.engine.specs.Room.{Few}
-use Rattle.engine.specs.Calls.{Ran, blank, recordIn, turnDone, tried, tryCall, noTurns, standing, runFrom, runCall}
+use Rattle.engine.specs.Calls.{Ran, blank, reportOn, recordIn, turnDone, tried, tryCall, noTurns, standing, unbegun, runFrom, runCall}
 use Rattle.engine.proofs.Few.{few-more, few-exact}
 use Rattle.engine.proofs.Stops.{run-over, next-done, next-refused}
 use Rattle.floor.specs.declared.run.Running.{Running}
 use Rattle.floor.specs.Running.{begun, goneOn}
 use Rattle.floor.specs.Told.{runTold}
-use Rattle.floor.specs.Calls.{OnList, onList, sayIn}
+use Rattle.floor.specs.Calls.{OnList, onList, sayIn, ranTold}
 use Rattle.floor.specs.Promises.{RunLeft}
 
 -- a run never comes to a number that a count could not hold
@@ -34,7 +35,7 @@ short-enough i n less short = omega arith
 module _ (f : Floor) (ts : List ℕ) where
   -- what is left to run
   abbrev resume : Running → List ℕ → List Worker → After Ran
-  resume r board records = runFrom f (drop (r .at) ts) (standing board records (r .totals) (r .stop))
+  resume r board records = runFrom f (drop (r .at) ts) (standing board records (r .totals) (r .last) (r .stop))
 
   -- what holds while a turn is left
   pub record Going (r : Running) (board : List ℕ) (records : List Worker) : Type 0 where
@@ -54,7 +55,7 @@ module _ (f : Floor) (ts : List ℕ) where
     abbrev number : ℕ
     number = runRefusal f (length first) (length ys) (length ts)
 
-    accepted : number ≡ 0 → Going (record { totals = noTurns; at = 0; end = length ts; stop = 0 }) first ys
+    accepted : number ≡ 0 → Going (record { totals = noTurns; at = 0; end = length ts; last = noReport; stop = 0 }) first ys
     unfolding wrongSizes
     accepted none =
         let sizes = passes _ 0 _ none in
@@ -66,8 +67,8 @@ module _ (f : Floor) (ts : List ℕ) where
 
     -- refused as a whole, it is at its end, and else before its first turn
     begun-either : (t : Bool) → eqb number 0 ≡ t
-        → Underway (cond t (record { totals = noTurns; at = 0; end = length ts; stop = 0 })
-        (record { totals = noTurns; at = length ts; end = length ts; stop = number })) first ys
+        → Underway (cond t (record { totals = noTurns; at = 0; end = length ts; last = noReport; stop = 0 })
+        (record { totals = noTurns; at = length ts; end = length ts; last = noReport; stop = number })) first ys
     unfolding runCall runNumber
     begun-either true is = record {
       end = refl;
@@ -78,7 +79,7 @@ module _ (f : Floor) (ts : List ℕ) where
     begun-either false isnot = record {
       end = refl;
       within = omega arith;
-      comes = rw isnot (run-over f ts (length ts) (standing first ys noTurns number) (omega arith));
+      comes = rw isnot (run-over f ts (length ts) (unbegun first ys number) (omega arith));
       going = λ less. absurd (omega arith);
     }
 
@@ -107,7 +108,7 @@ module _ (f : Floor) (ts : List ℕ) where
 
       -- the run as it stands, and its turns from here on
       abbrev now-stands : After Ran
-      now-stands = standing board records (r .totals) (r .stop)
+      now-stands = standing board records (r .totals) (r .last) (r .stop)
 
       from-here : runFrom f (drop i ts) now-stands ≡ runFrom f (t ∷ drop (i + 1) ts) now-stands
       from-here = rw (add-one i, drop-cons ts i 0 left)
@@ -125,6 +126,13 @@ module _ (f : Floor) (ts : List ℕ) where
       unfolding wrongSizes
       after-it board′ records′ same₀ same₁ = rw (same₀, same₁) (here .right)
 
+      -- the step of the turn, and what it reports
+      abbrev s : Step
+      s = turn (bucketFor f board (w .key)) w
+
+      abbrev report : Report
+      report = reportOn f board w s
+
       -- what a turn that came out so leaves of the run
       abbrev Leaves : After Tried → Type 0
       Leaves x =
@@ -133,13 +141,11 @@ module _ (f : Floor) (ts : List ℕ) where
           → Underway (goneOn r (x .handed .said)) (x .words) (set records t (x .handed .worker))
 
       leaves : (b : Bool) → eqb turn-of 0 ≡ b
-          → let s = turn (bucketFor f board (w .key)) w in
-          Leaves (cond b (after (turnDone f board w s .words) (done (s .stepped) (w .place))) (after board (refused turn-of w)))
+          → Leaves (cond b (after (turnDone f board w s .words) (done (s .stepped .worker) report (w .place))) (after board (refused turn-of w)))
       unfolding goneOn
       leaves true is same₀ same₁ =
-          let s = turn (bucketFor f board (w .key)) w in
           let next = lt-ltb i (r .end) less in
-          let counted = few-more i (w .place) (s .stepped .report) (r .totals) (here .few) in
+          let counted = few-more i (w .place) report (r .totals) (here .few) in
           let exact = few-exact (i + 1) _ (short-enough i (length ts) left (here .short)) counted in
           record {
             end = under .end;
@@ -153,7 +159,7 @@ module _ (f : Floor) (ts : List ℕ) where
             end = under .end;
             within = omega (arith, under .end);
             comes =
-                run-over f ts (r .end) (standing board records (r .totals) turn-of) (omega (arith, under .end))
+                run-over f ts (r .end) (standing board records (r .totals) (r .last) turn-of) (omega (arith, under .end))
                 ∙ sym (rw (each) (next-refused f t (drop (i + 1) ts) now-stands (λ none. eqb-false turn-of 0 isnot (each ∙ none))))
                 ∙ sym from-here
                 ∙ under .comes;
@@ -180,5 +186,6 @@ module _ (f : Floor) (ts : List ℕ) where
     -- ---- the end
 
     pub over : (r : Running) (board : List ℕ) (records : List Worker) → Underway r board records → r .end ≤ r .at
-        → RunLeft first ys f ts board records (runTold r)
-    over r board records under past = record { whole = sym (run-over f ts (r .at) _ (omega (arith, under .end))) ∙ under .comes }
+        → RunLeft first ys f ts board records (runTold (r .last) (r .totals) (r .stop))
+    over r board records under past =
+        record { whole = ap ranTold (sym (run-over f ts (r .at) _ (omega (arith, under .end))) ∙ under .comes) }

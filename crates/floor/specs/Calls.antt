@@ -1,18 +1,19 @@
--- The calls that concern one record of the lent list: what they leave on the board and in the list, and what they answer. An opening
--- and a run are the engine's openCall and runCall on the list.
+-- The calls on the lent list: what they leave on the board and in the list, and what they answer. An opening is the engine's openCall on
+-- the list.
 use Prim.Native.Nat.{ℕ}
 use mathlib.Core.List.{List}
-use lib.ListN.{set}
+use lib.ListN.{length, set}
 use Rattle.turn.specs.declared.Worker.{Worker}
 use Rattle.turn.specs.declared.Said.{Said}
 use Rattle.turn.specs.Turn.{After, after}
 use Rattle.engine.specs.declared.Floor.{Floor}
 use Rattle.engine.specs.declared.Seat.{Seat}
 use Rattle.engine.specs.declared.Started.{Started}
-use Rattle.engine.specs.Calls.{recordIn, seatIn, tryCall, turnCall}
+use Rattle.engine.specs.Calls.{Ran, recordIn, seatIn, tryCall, turnCall, runCall}
 use Rattle.floor.specs.declared.Outcome.{Outcome}
 use Rattle.floor.specs.declared.TurnOutcome.{TurnOutcome}
-use Rattle.floor.specs.Told.{startTold, turnTold}
+use Rattle.floor.specs.declared.RunOutcome.{RunOutcome}
+use Rattle.floor.specs.Told.{startTold, turnTold, runTold}
 
 -- what a call leaves of the list, and what it answers
 pub record OnList (A : Type 0) : Type 0 where
@@ -40,3 +41,11 @@ abbrev pub turnIn : List ℕ → List Worker → Floor → ℕ → After (OnList
 turnIn board records f i =
     let x = turnCall board (seatIn f records i) (recordIn records i) in
     after (x .words) (onList (set records i (x .handed .worker)) (turnTold (x .handed .answer)))
+
+-- what the engine's run came to, as it goes out to C
+abbrev pub ranTold : After Ran → After (OnList RunOutcome)
+ranTold x = after (x .words) (onList (x .handed .records) (runTold (x .handed .last) (x .handed .totals) (x .handed .stop)))
+
+-- a run: it leaves the board and the list, and tells the last report, the totals and the number that stopped it
+abbrev pub runIn : List ℕ → List Worker → Floor → List ℕ → After (OnList RunOutcome)
+runIn board records f turns = ranTold (runCall board f records (length records) turns)

@@ -11,14 +11,14 @@ use Rattle.engine.specs.declared.Plan.{Plan}
 use Rattle.engine.specs.declared.Seat.{Seat}
 use Rattle.engine.specs.declared.Started.{Started}
 use Rattle.engine.specs.Refusals.{turnNumber, countNumber}
-use Rattle.engine.specs.Calls.{openCall, recordIn, runCall, showCall, showStart, countCall}
+use Rattle.engine.specs.Calls.{openCall, recordIn, showCall, showStart, countCall}
 use Rattle.floor.specs.declared.Outcome.{Outcome}
 use Rattle.floor.specs.declared.TurnOutcome.{TurnOutcome}
 use Rattle.floor.specs.declared.RunOutcome.{RunOutcome}
 use Rattle.floor.specs.declared.Part.{Part}
 use Rattle.floor.specs.declared.CountOutcome.{CountOutcome}
 use Rattle.floor.specs.Told.{countTold}
-use Rattle.floor.specs.Calls.{onList, startIn, turnIn}
+use Rattle.floor.specs.Calls.{onList, startIn, turnIn, runIn}
 
 -- an opening: the board and the list before and after, and what is handed back
 pub record FloorOpened (board : List ℕ) (records : List Worker) (f : Floor) (p : Plan) (board′ : List ℕ) (records′ : List Worker) (r : Outcome) :
@@ -39,7 +39,7 @@ pub record TurnLeft (board : List ℕ) (records : List Worker) (f : Floor) (i : 
 -- a run: the board and the list before and after, and what is handed back
 pub record RunLeft (board : List ℕ) (records : List Worker) (f : Floor) (turns board′ : List ℕ) (records′ : List Worker) (r : RunOutcome) :
     Type 0 where
-  pub whole : after board′ (record { records = records′; totals = r .totals; stop = r .stop }) ≡ runCall board f records (length records) turns
+  pub whole : after board′ (onList records′ r) ≡ runIn board records f turns
 
 -- a show, where no reference can be handed back: which words of the lent board are the part
 pub record PartShown (board : List ℕ) (f : Floor) (lot : ℕ) (p : Part) : Type 0 where

@@ -3,6 +3,7 @@ use Prim.Native.Nat.{ℕ, _+_}
 use mathlib.Core.Bool.{cond}
 use lib.Dec.{eqb, ltb}
 use Rattle.turn.specs.declared.Said.{Said}
+use Rattle.turn.specs.Turn.{noReport}
 use Rattle.engine.specs.declared.Floor.{Floor}
 use Rattle.engine.specs.Refusals.{runRefusal}
 use Rattle.engine.specs.Calls.{noTurns, tallied, cappedTotals}
@@ -13,10 +14,10 @@ unfoldable pub begun : Floor → ℕ → ℕ → ℕ → Running
 begun f words listed turns =
     let number = runRefusal f words listed turns in
     cond (eqb number 0)
-    (record { totals = noTurns; at = 0; end = turns; stop = 0 })
-    (record { totals = noTurns; at = turns; end = turns; stop = number })
+    (record { totals = noTurns; at = 0; end = turns; last = noReport; stop = 0 })
+    (record { totals = noTurns; at = turns; end = turns; last = noReport; stop = number })
 
--- after a turn that says this: it is counted and the next one comes, or it is refused and the run is at its end
+-- §4.13: after a turn that says this: it is counted, its report is the last, and the next one comes; or it is refused and the run is at its end
 unfoldable pub goneOn : Running → Said → Running
 goneOn r s =
     cond (eqb (s .refusal) 0)
@@ -24,6 +25,7 @@ goneOn r s =
       totals = cappedTotals (tallied (s .place) (s .report) (r .totals));
       at = cond (ltb (r .at) (r .end)) (r .at + 1) (r .end);
       end = r .end;
+      last = s .report;
       stop = 0;
     })
-    (record { totals = r .totals; at = r .end; end = r .end; stop = s .refusal })
+    (record { totals = r .totals; at = r .end; end = r .end; last = r .last; stop = s .refusal })

@@ -5,12 +5,14 @@ use Rattle.turn.specs.declared.Action.{Action}
 use Rattle.turn.specs.declared.Action.the-variants.{Read, Store, Won, Lost}
 use Rattle.turn.specs.declared.Progress.{Progress}
 use Rattle.turn.specs.declared.Progress.the-variants.{GoesOn, Ended}
+use Rattle.turn.specs.declared.Report.{Report}
 use Rattle.turn.specs.Turn.{Answer, Refused, Done}
 use Rattle.engine.specs.declared.Started.{Started}
+use Rattle.engine.specs.declared.Totals.{Totals}
 use Rattle.engine.specs.declared.Counted.{Counted}
 use Rattle.engine.specs.declared.Counted.the-variants.{Refusal, Lots}
-use Rattle.floor.specs.declared.run.Running.{Running}
 use Rattle.floor.specs.declared.Outcome.{Outcome}
+use Rattle.floor.specs.declared.ReportOutcome.{ReportOutcome}
 use Rattle.floor.specs.declared.TurnOutcome.{TurnOutcome}
 use Rattle.floor.specs.declared.RunOutcome.{RunOutcome}
 use Rattle.floor.specs.declared.CountOutcome.{CountOutcome}
@@ -32,25 +34,35 @@ abbrev pub endedWith : Progress → ℕ
 endedWith GoesOn = 0
 endedWith (Ended answer) = answer
 
+-- §14.9: a report
+abbrev pub reportTold : Report → ReportOutcome
+reportTold r =
+    record {
+      action = actionNumber (r .action);
+      ended = isEnded (r .progress);
+      answer = endedWith (r .progress);
+      full = r .full;
+      bucket = r .bucket;
+      before = r .before;
+      after = r .after;
+    }
+
+-- §14.9: what stands for the report of a turn that was refused
+abbrev pub nothingTold : ReportOutcome
+nothingTold = record { action = 0; ended = false; answer = 0; full = false; bucket = 0; before = 0; after = 0 }
+
 -- §7.1, §14.9: a turn's answer; one that is refused has its number, and 0 everywhere else
 abbrev pub turnTold : Answer → TurnOutcome
-turnTold (Refused number) = record { refusal = number; action = 0; ended = false; full = false; answer = 0 }
-turnTold (Done report) =
-    record {
-      refusal = 0;
-      action = actionNumber (report .action);
-      ended = isEnded (report .progress);
-      full = report .full;
-      answer = endedWith (report .progress);
-    }
+turnTold (Refused number) = record { refusal = number; report = nothingTold }
+turnTold (Done report) = record { refusal = 0; report = reportTold report }
 
 -- a start's answer: the number, and the floor as it now stands
 abbrev pub startTold : Started → Outcome
 startTold s = record { refusal = s .refusal; floor = s .floor }
 
--- a run's answer: the counts of the turns done, and the number that stopped it, or 0
-abbrev pub runTold : Running → RunOutcome
-runTold r = record { totals = r .totals; stop = r .stop }
+-- §4.10, §4.13: a run's answer: the last turn's report, the counts of the turns done, and the number that stopped it, or 0
+abbrev pub runTold : Report → Totals → ℕ → RunOutcome
+runTold last totals stop = record { last = reportTold last; totals = totals; stop = stop }
 
 -- §14.9: a count's answer
 abbrev pub countTold : Counted → CountOutcome

@@ -21,20 +21,30 @@ pub struct Outcome {
     pub refusal: u8,
 }
 
-// The number of refusal, or 0; and of a turn that is done its action (1 read, 2 store, 3 won, 4 lost), whether the call ended and with
-// which answer, and whether it was a full round.
+// §14.9: a turn's report in numbers: whether the call ended and with which answer, the bucket with its mark word before the turn and after
+// it, the action (1 read, 2 store, 3 won, 4 lost; 0 where the turn was refused), and whether it was a full round.
 #[repr(C)]
-pub struct TurnOutcome {
+pub struct ReportOutcome {
     pub answer: u64,
-    pub refusal: u8,
+    pub before: u64,
+    pub after: u64,
+    pub bucket: usize,
     pub action: u8,
     pub ended: bool,
     pub full: bool,
 }
 
-// What the turns done come to, and the number that stopped the run, or 0.
+// A turn's report, and the number of refusal, or 0.
+#[repr(C)]
+pub struct TurnOutcome {
+    pub report: ReportOutcome,
+    pub refusal: u8,
+}
+
+// The last turn's report, what the turns done come to, and the number that stopped the run, or 0.
 #[repr(C)]
 pub struct RunOutcome {
+    pub last: ReportOutcome,
     pub totals: Totals,
     pub stop: u8,
 }

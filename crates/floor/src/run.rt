@@ -8,12 +8,14 @@ ghost use Rattle.floor.specs.Running.{begun, goneOn};
 use engine::Floor;
 use engine::Totals;
 use engine::tally;
+use turn::Report;
 use turn::Said;
 
 pub struct Running {
     pub totals: Totals,
     pub at: usize,
     pub end: usize,
+    pub last: Report,
     pub stop: u8,
 }
 
@@ -23,11 +25,13 @@ pub fn begin(floor: Floor, words: usize, listed: usize, turns: usize) -> Running
 {
     let refusal = engine::run_refusal(floor, words, listed, turns);
     let totals = tally::nothing();
+    let last = turn::no_report();
     if refusal == 0 {
         return Running {
             totals,
             at: 0,
             end: turns,
+            last,
             stop: 0,
         };
     }
@@ -35,6 +39,7 @@ pub fn begin(floor: Floor, words: usize, listed: usize, turns: usize) -> Running
         totals,
         at: turns,
         end: turns,
+        last,
         stop: refusal,
     }
 }
@@ -69,13 +74,16 @@ pub fn go_on(run: Running, said: Said) -> Running
             totals: tally::add(totals, said.place, report),
             at: next(run.at, run.end),
             end: run.end,
+            last: report,
             stop: 0,
         };
     }
+    let last = run.last;
     Running {
         totals,
         at: run.end,
         end: run.end,
+        last,
         stop: said.refusal,
     }
 }

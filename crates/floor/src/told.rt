@@ -1,8 +1,9 @@
 // What the engine's calls hand back, as it goes out to C.
 ghost use mathlib.Core.Path.{_≡_};
 ghost use Rattle.turn.specs.Turn.{Refused, Done, answerOf};
-ghost use Rattle.floor.specs.Told.{actionNumber, isEnded, endedWith, turnTold, runTold, countTold};
+ghost use Rattle.floor.specs.Told.{actionNumber, isEnded, endedWith, reportTold, turnTold, runTold, countTold};
 use crate::CountOutcome;
+use crate::ReportOutcome;
 use crate::RunOutcome;
 use crate::TurnOutcome;
 use crate::run::Running;
@@ -52,17 +53,29 @@ fn ended_with(p: Progress) -> u64
     }
 }
 
-fn done(r: Report) -> TurnOutcome
-    ensures { λ t. ⌜ t ≡ turnTold (Done r) ⌝ }
+// §14.9: a report.
+fn report(r: Report) -> ReportOutcome
+    ensures { λ t. ⌜ t ≡ reportTold r ⌝ }
 {
     let a = r.action;
     let p = r.progress;
-    TurnOutcome {
+    ReportOutcome {
         answer: ended_with(p),
-        refusal: 0,
+        before: r.before,
+        after: r.after,
+        bucket: r.bucket,
         action: action(a),
         ended: is_ended(p),
         full: r.full,
+    }
+}
+
+fn done(r: Report) -> TurnOutcome
+    ensures { λ t. ⌜ t ≡ turnTold (Done r) ⌝ }
+{
+    TurnOutcome {
+        report: report(r),
+        refusal: 0,
     }
 }
 
@@ -70,11 +83,16 @@ fn refused(number: u8) -> TurnOutcome
     ensures { λ t. ⌜ t ≡ turnTold (Refused number) ⌝ }
 {
     TurnOutcome {
-        answer: 0,
+        report: ReportOutcome {
+            answer: 0,
+            before: 0,
+            after: 0,
+            bucket: 0,
+            action: 0,
+            ended: false,
+            full: false,
+        },
         refusal: number,
-        action: 0,
-        ended: false,
-        full: false,
     }
 }
 
@@ -89,10 +107,12 @@ pub fn turn(said: Said) -> TurnOutcome
 }
 
 pub fn run(run: Running) -> RunOutcome
-    ensures { λ r. ⌜ r ≡ runTold run ⌝ }
+    ensures { λ r. ⌜ r ≡ runTold (run .last) (run .totals) (run .stop) ⌝ }
 {
     let totals = run.totals;
+    let last = run.last;
     RunOutcome {
+        last: report(last),
         totals,
         stop: run.stop,
     }

@@ -18,10 +18,10 @@ use Rattle.history.proofs.Steps.{Turns, stepOf}
 
 module _ {s t : State} {e : Entry} (act : Turns s e t) where
   abbrev bucket : List ℕ
-  bucket = bucketAt (s .board) (e .bucket)
+  bucket = bucketAt (s .board) (e .report .bucket)
 
-  within : 8 * e .bucket + 8 ≤ length (s .board)
-  within = bucket-within (s .board) (e .bucket) (act .ok .whole .eight)
+  within : 8 * e .report .bucket + 8 ≤ length (s .board)
+  within = bucket-within (s .board) (e .report .bucket) (act .ok .whole .eight)
 
   eight : length (stepOf s e .bucket) ≡ 8
   eight = turn-long bucket (e .was) ∙ act .ok .whole .eight
@@ -29,20 +29,20 @@ module _ {s t : State} {e : Entry} (act : Turns s e t) where
   -- ---- the board
 
   -- the bucket of a turn is left as the place table says
-  pub own-bucket : bucketAt (t .board) (e .bucket) ≡ stepOf s e .bucket
-  own-bucket = rw (act .board, same-bucket (s .board) (e .bucket) (stepOf s e .bucket) within eight)
+  pub own-bucket : bucketAt (t .board) (e .report .bucket) ≡ stepOf s e .bucket
+  own-bucket = rw (act .board, same-bucket (s .board) (e .report .bucket) (stepOf s e .bucket) within eight)
 
   -- the cells of a turn's bucket are left as the place table says
-  pub own-cells : (k : ℕ) → cell (bucketAt (t .board) (e .bucket)) k ≡ cell (stepOf s e .bucket) k
+  pub own-cells : (k : ℕ) → cell (bucketAt (t .board) (e .report .bucket)) k ≡ cell (stepOf s e .bucket) k
   own-cells k = ap (λ (l : List ℕ). cell l k) own-bucket
 
   -- the cells of every other bucket are left as they were
-  pub other-cells : (b k : ℕ) → (b ≡ e .bucket → ⊥) → cell (bucketAt (t .board) b) k ≡ cell (bucketAt (s .board) b) k
+  pub other-cells : (b k : ℕ) → (b ≡ e .report .bucket → ⊥) → cell (bucketAt (t .board) b) k ≡ cell (bucketAt (s .board) b) k
   other-cells b k other =
-      rw (act .board) (ap (λ (l : List ℕ). cell l k) (other-bucket (s .board) (e .bucket) (stepOf s e .bucket) within eight b other))
+      rw (act .board) (ap (λ (l : List ℕ). cell l k) (other-bucket (s .board) (e .report .bucket) (stepOf s e .bucket) within eight b other))
 
   -- what a turn did to the cells of its bucket
-  pub turn-account : Did (λ k. cell bucket k) (e .was) (λ k. cell (bucketAt (t .board) (e .bucket)) k) (stepOf s e .stepped)
+  pub turn-account : Did (λ k. cell bucket k) (e .was) (λ k. cell (bucketAt (t .board) (e .report .bucket)) k) (stepOf s e .stepped)
   turn-account =
       subst (λ (l : List ℕ). Did (λ k. cell bucket k) (e .was) (λ k. cell l k) (stepOf s e .stepped)) (sym own-bucket)
       (turn-did bucket (e .was) (act .ok))
@@ -50,7 +50,7 @@ module _ {s t : State} {e : Entry} (act : Turns s e t) where
   -- ---- the worker
 
   -- its bucket is that of its lot
-  pub was-home : e .bucket ≡ home (s .floor .buckets) (e .was)
+  pub was-home : e .report .bucket ≡ home (s .floor .buckets) (e .was)
   was-home = rw (act .acts .was) (act .acts .bucket)
 
   module _ (busy : stepOf s e .stepped .worker ≡ idle → ⊥) where
@@ -59,6 +59,6 @@ module _ {s t : State} {e : Entry} (act : Turns s e t) where
     still-on = turn-on bucket (e .was) (act .ok) busy
 
     -- a worker that is still busy is in the same bucket
-    pub still-home : home (t .floor .buckets) (stepOf s e .stepped .worker) ≡ e .bucket
+    pub still-home : home (t .floor .buckets) (stepOf s e .stepped .worker) ≡ e .report .bucket
     still-home =
         ap (λ (k : ℕ). bucketOf k (t .floor .buckets)) (still-on .call .key) ∙ ap (bucketOf (e .was .key)) (act .buckets) ∙ sym was-home

@@ -1,7 +1,7 @@
 -- A turn, done or refused, on what demand 3 goes by. Assumes nothing.
-use Prim.Native.Nat.{ℕ, _+_, _*_, _≤_}
+use Prim.Native.Nat.{ℕ}
 use mathlib.Core.List.{List}
-use mathlib.Core.Path.{_≡_, refl, ap, _∙_}
+use mathlib.Core.Path.{_≡_, refl, sym, ap, _∙_}
 use native.Mathlib.Omega.{arith}
 use lib.Dec.{eqb}
 use lib.ListN.{length}
@@ -9,19 +9,20 @@ use borrow.Author.Tests.{eqb-true}
 use Rattle.mark.proofs.Choices.{by-cases, passes}
 use Rattle.turn.specs.declared.Worker.{Worker}
 use Rattle.turn.specs.Bucket.{cell, markCell}
-use Rattle.turn.specs.Effects.{effectOn, effectOf}
+use Rattle.turn.specs.Effects.{effectOf}
 use Rattle.turn.specs.Places.{Step, turn}
 use Rattle.turn.specs.Turn.{Turned, After, after, refusing}
 use Rattle.turn.proofs.Sound.{Accepted}
 use Rattle.turn.proofs.Cells.{turn-long}
-use Rattle.turn.proofs.Effects.{turn-moves, turn-went, turn-won-at, turn-effect, turn-aims}
+use Rattle.turn.proofs.Effects.{turn-moves, turn-went, turn-won-at, turn-aims}
 use Rattle.turn.proofs.Kept.{turn-idles}
 use Rattle.engine.specs.Board.{bucketOf, bucketAt, withBucket}
 use Rattle.engine.specs.Refusals.{wrongSizes, turnNumber}
-use Rattle.engine.specs.Calls.{turnDone, turned, turnCall}
+use Rattle.engine.specs.Calls.{reportOn, turnDone, turned, turnCall}
 use Rattle.engine.proofs.Sizes.{right-listed}
 use Rattle.engine.proofs.Keeps.{turn-accepted}
-use Rattle.engine.proofs.Cut.{bucket-within, same-bucket, other-bucket}
+use Rattle.engine.proofs.Reports.{done-tells}
+use Rattle.engine.proofs.Cut.{bucket-within, other-bucket}
 use Rattle.history.specs.Trace.{Entry}
 use Rattle.history.specs.Counts.{isChange, isCommit, isClose}
 use Rattle.history.specs.History.{State, recordOf, turnBy, turnedAs, entryOf, turnEntry}
@@ -29,27 +30,18 @@ use Rattle.history.proofs.Counts.{commit-is, close-is, change-is}
 use Rattle.history.proofs.View.{Acts, Walk, stays, acts}
 use Rattle.history.proofs.States.{view, same-walk}
 
--- ---- the mark words that a turn leaves
-
-module _ (board : List ℕ) (b : ℕ) (w : Worker) (ok : Accepted (bucketAt board b) w) where
-  abbrev step : Step
-  step = turn (bucketAt board b) w
-
-  within : 8 * b + 8 ≤ length board
-  within = bucket-within board b (ok .whole .eight)
-
-  eight : length (step .bucket) ≡ 8
-  eight = turn-long (bucketAt board b) w ∙ ok .whole .eight
-
-  -- of its bucket what the effect makes of it
-  mark-here :
-      cell (bucketAt (withBucket board b (step .bucket)) b) markCell
-      ≡ effectOn (effectOf w (step .stepped .report .action)) (cell (bucketAt board b) markCell)
-  mark-here = rw (same-bucket board b (step .bucket) within eight) (turn-effect (bucketAt board b) w ok)
-
-  -- of every other bucket the one that it had
-  mark-there : (c : ℕ) → (c ≡ b → ⊥) → cell (bucketAt (withBucket board b (step .bucket)) c) markCell ≡ cell (bucketAt board c) markCell
-  mark-there c other = ap (λ (l : List ℕ). cell l markCell) (other-bucket board b (step .bucket) within eight c other)
+-- a turn leaves the mark word of every other bucket
+mark-there :
+    (board : List ℕ) (b : ℕ) (w : Worker)
+    → Accepted (bucketAt board b) w
+    → (c : ℕ)
+    → (c ≡ b → ⊥)
+    → cell (bucketAt (withBucket board b (turn (bucketAt board b) w .bucket)) c) markCell ≡ cell (bucketAt board c) markCell
+mark-there board b w ok c other =
+    let bucket = bucketAt board b in
+    let eight = ok .whole .eight in
+    ap (λ (l : List ℕ). cell l markCell)
+    (other-bucket board b (turn bucket w .bucket) (bucket-within board b eight) (turn-long bucket w ∙ eight) c other)
 
 -- ---- a turn of worker i
 
@@ -72,7 +64,7 @@ module _ (s : State) (i : ℕ) where
   done = turnDone (s .floor) (s .board) w does
 
   abbrev pub entry : Entry
-  entry = record { worker = i; bucket = b; was = w; report = does .stepped .report }
+  entry = record { worker = i; was = w; report = reportOn (s .floor) (s .board) w does }
 
   -- where it is not refused, there is a record for each worker
   listed : number ≡ 0 → length (s .records) ≡ s .floor .workers
@@ -85,7 +77,8 @@ module _ (s : State) (i : ℕ) where
       let known = turn-accepted (s .floor) (s .board) (length (s .records)) i w none in
       let ok = known .1 in
       let bucket = bucketAt (s .board) b in
-      let action = does .stepped .report .action in
+      let action = does .stepped .action in
+      let tells = done-tells (s .floor) (s .board) w ok in
       record {
         effect = effectOf w action;
         commits = commit-is w action (isCommit entry);
@@ -96,7 +89,9 @@ module _ (s : State) (i : ℕ) where
         last = refl;
         bucket = refl;
         was = refl;
-        here = mark-here (s .board) b w ok;
+        before = tells .before;
+        after = tells .after;
+        here = sym (tells .after) ∙ tells .effect;
         there = mark-there (s .board) b w ok;
         moves = turn-moves bucket w ok;
         went = turn-went bucket w ok;

@@ -20,7 +20,7 @@ use Rattle.turn.specs.Turn.{After}
 use Rattle.turn.proofs.Sound.{Accepted}
 use Rattle.engine.specs.declared.Floor.{Floor}
 use Rattle.engine.specs.Board.{bucketAt}
-use Rattle.engine.specs.Calls.{Ran, noTurns, standing, recordIn, runFrom, runCall}
+use Rattle.engine.specs.Calls.{Ran, unbegun, recordIn, runFrom, runCall}
 use Rattle.engine.proofs.Stops.{doneBy, next-done, next-refused}
 use Rattle.history.specs.Trace.{Entry, By, Continues, Ends, Some, None}
 use Rattle.history.specs.Numbers.{OneOf}
@@ -75,21 +75,21 @@ module _ (A : List ℕ → ℕ → Worker → Type 0) (Q : Type 0) where
       record-then = new-record (view s) (view t) (e .worker) (x .worker) (act .acts .records) (act .acts .within)
 
       -- the bucket and the record that the turn found
-      had-then : A (bucketAt (s .board) (e .bucket)) k (e .was)
+      had-then : A (bucketAt (s .board) (e .report .bucket)) k (e .was)
       had-then = rw (was-home act, act .acts .was) had
 
-      ticketed : Ticketed (bucketAt (s .board) (e .bucket))
-      ticketed p one = known .cells .valid (e .bucket) p one .ticket
+      ticketed : Ticketed (bucketAt (s .board) (e .report .bucket))
+      ticketed p one = known .cells .valid (e .report .bucket) p one .ticket
 
       by-step : {y : Stepped} → StepsTo k (stepOf s e .bucket) y → x ≡ y → Afterwards (e .worker) k t e
       by-step (further {v = v} more) is =
           let worker : x .worker ≡ v = ap (λ (y : Stepped). y .worker) is in
-          let there : home (t .floor .buckets) (recordOf t (e .worker)) ≡ e .bucket =
+          let there : home (t .floor .buckets) (recordOf t (e .worker)) ≡ e .report .bucket =
           ap (home (t .floor .buckets)) record-then ∙ still-home act (λ rests. count .busy more (sym worker ∙ rests)) in
-          goes (ap (λ (r : Report). r .progress) (act .report) ∙ ap (λ (y : Stepped). y .report .progress) is)
+          goes (ap (λ (r : Report). r .progress) (act .report) ∙ ap (λ (y : Stepped). y .progress) is)
           (rw (there, own-bucket act, record-then, worker) more)
       by-step (final can a answer) is =
-          ended can (answered-ends e answer (ap (λ (r : Report). r .progress) (act .report) ∙ ap (λ (y : Stepped). y .report .progress) is))
+          ended can (answered-ends e answer (ap (λ (r : Report). r .progress) (act .report) ∙ ap (λ (y : Stepped). y .progress) is))
           (record-then ∙ ap (λ (y : Stepped). y .worker) is)
 
       turn-went : Afterwards (e .worker) k t e
@@ -225,12 +225,12 @@ module _ (A : List ℕ → ℕ → Worker → Type 0) (Q : Type 0) where
 
     -- a run of a worker that is at a call in s
     module _ (s : State) (i : ℕ) (ok : Unbroken s) (known : Known s) (under : i < s .floor .workers) (had : A (ownBucket i s) 0 (recordOf s i)) where
-      run-is : (n : ℕ) → n ≤ 65535 → runOf s (replicate n i) ≡ runFrom (s .floor) (replicate n i) (standing (s .board) (s .records) noTurns 0)
+      run-is : (n : ℕ) → n ≤ 65535 → runOf s (replicate n i) ≡ runFrom (s .floor) (replicate n i) (unbegun (s .board) (s .records) 0)
       unfolding runCall
       run-is n few = rw (run-accepted s ok (replicate n i) (omega (arith, length-replicate n i)))
 
-      runs : (n : ℕ) → n ≤ 65535 → Runs (s .floor) i under n 0 (standing (s .board) (s .records) noTurns 0) (runOf s (replicate n i))
-      runs n few = rw (run-is n few) (busy-run (s .floor) i under n 0 (standing (s .board) (s .records) noTurns 0) ok known refl had)
+      runs : (n : ℕ) → n ≤ 65535 → Runs (s .floor) i under n 0 (unbegun (s .board) (s .records) 0) (runOf s (replicate n i))
+      runs n few = rw (run-is n few) (busy-run (s .floor) i under n 0 (unbegun (s .board) (s .records) 0) ok known refl had)
 
       -- a call that can take so many turns ends within them
       module _ (most : ℕ) (fewer : (b : List ℕ) (k : ℕ) (w : Worker) → A b k w → k < most) (few : most ≤ 65535) where
@@ -238,7 +238,7 @@ module _ (A : List ℕ → ℕ → Worker → Type 0) (Q : Type 0) where
         still-fewer rest (inl over) unended = absurd (unended (over .1))
         still-fewer rest (inr on) unended = fewer _ _ _ (on .1)
 
-        ends-by : Runs (s .floor) i under most 0 (standing (s .board) (s .records) noTurns 0) (runOf s (replicate most i)) → EndsAlone s i most
+        ends-by : Runs (s .floor) i under most 0 (unbegun (s .board) (s .records) 0) (runOf s (replicate most i)) → EndsAlone s i most
         ends-by (inr busy) = absurd (omega (arith, fewer _ _ _ (busy .had)))
         ends-by (inl rests) =
             record {
@@ -256,7 +256,7 @@ module _ (A : List ℕ → ℕ → Worker → Type 0) (Q : Type 0) where
       module _ (never : Q → ⊥) where
         goes-by :
             (n : ℕ)
-            → Runs (s .floor) i under n 0 (standing (s .board) (s .records) noTurns 0) (runOf s (replicate n i))
+            → Runs (s .floor) i under n 0 (unbegun (s .board) (s .records) 0) (runOf s (replicate n i))
             → GoesOnFor s i n
         goes-by n (inl rests) = absurd (never (rests .0))
         goes-by n (inr on) =

@@ -14,6 +14,7 @@ use Rattle.turn.proofs.Lands.{elsewhere}
 use Rattle.engine.specs.Calls.{blank}
 use Rattle.history.specs.Trace.{total}
 use Rattle.history.specs.History.{State, Opening, Call, opened, workersOf, state, trace, inserts, removes}
+use Rattle.history.specs.Reports.{openedWord}
 use Rattle.history.specs.Cells.{Holds}
 use Rattle.history.proofs.Sums.{total-none}
 use Rattle.history.proofs.View.{worker, inserting, left, Aware}
@@ -66,12 +67,14 @@ module _ (o : Opening) where
         apart = λ i j other holds theirs same equal. holds-none i holds;
       }
 
-  tells : (b : ℕ) → b < o .plan .buckets → Tells (o .plan .version) b [] (view (opened o) .marks b)
-  tells b under =
-      let mark : view (opened o) .marks b ≡ o .plan .version =
+  -- the mark word of each bucket is the opening's
+  pub opened-word : (b : ℕ) → b < o .plan .buckets → view (opened o) .marks b ≡ openedWord o
+  opened-word b under =
       ap (λ (s : State). view s .marks b) (opened-is o)
-      ∙ ap (λ (l : List ℕ). cell l markCell) (opened-bucket (o .plan .buckets) (o .plan .version) b under) in
-      rw mark (empty-tells (o .plan .version) b (o .version-fits))
+      ∙ ap (λ (l : List ℕ). cell l markCell) (opened-bucket (o .plan .buckets) (o .plan .version) b under)
+
+  tells : (b : ℕ) → b < o .plan .buckets → Tells (o .plan .version) b [] (view (opened o) .marks b)
+  tells b under = rw (opened-word b under) (empty-tells (o .plan .version) b (o .version-fits))
 
   -- no record counts for anything
   counts-none : (f : Worker → ℕ) → f idle ≡ 0 → total f (opened o .records) ≡ 0

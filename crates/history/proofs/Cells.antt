@@ -105,14 +105,14 @@ module _ {s t : State} {e : Entry} (act : Turns s e t) (old : Known s) where
   abbrev x : Stepped
   x = stepOf s e .stepped
 
-  here : e .bucket ≡ home n w
+  here : e .report .bucket ≡ home n w
   here = was-home act
 
   -- what is known of the worker's record
   filled-was : Holds w → Fills (cellsAt s (home n w)) w
   filled-was = rw (act .acts .was) (old .cells .filled i)
 
-  sure-was : Holds w → markAt s (e .bucket) (w .held) ≡ 2
+  sure-was : Holds w → markAt s (e .report .bucket) (w .held) ≡ 2
   sure-was = rw (act .acts .was) (λ holds. own-sure n (view s) e _ (view t) (old .kept) (act .acts) holds .board)
 
   apart-was : (j : ℕ) → (j ≡ i → ⊥) → Apart n (recordOf s j) w
@@ -121,22 +121,22 @@ module _ {s t : State} {e : Entry} (act : Turns s e t) (old : Known s) where
   mine : Holds (x .worker) → Fills (cellsAt t (home (t .floor .buckets) (x .worker))) (x .worker)
   mine holds =
       let busy = holds-busy _ holds in
-      let was : Holds w → Fills (cellsAt s (e .bucket)) w = λ held. rw here (filled-was held) in
-      rw (still-home act busy) (did-fills (cellsAt s (e .bucket)) w (cellsAt t (e .bucket)) was (turn-account act) (still-on act busy) holds)
+      let was : Holds w → Fills (cellsAt s (e .report .bucket)) w = λ held. rw here (filled-was held) in
+      rw (still-home act busy) (did-fills (cellsAt s (e .report .bucket)) w (cellsAt t (e .report .bucket)) was (turn-account act) (still-on act busy) holds)
 
   -- the value of a slot stays unless the worker stores its ticket there, and its key unless it stores its lot
-  value-same : (b p : ℕ) → (b ≡ e .bucket → p ≡ w .held → w .place ≡ 7 → Holds w → ⊥) → valueAt t b p ≡ valueAt s b p
+  value-same : (b p : ℕ) → (b ≡ e .report .bucket → p ≡ w .held → w .place ≡ 7 → Holds w → ⊥) → valueAt t b p ≡ valueAt s b p
   value-same b p none =
       turn-spares act b p (λ stores same slot. none same slot (stores .0) (let place = stores .0 in filled _ w (act .ok) (omega arith) (omega arith)))
 
-  key-same : (b p : ℕ) → p ≤ 2 → (b ≡ e .bucket → p ≡ w .held → w .place ≡ 8 → Holds w → ⊥) → keyAt t b p ≡ keyAt s b p
-  key-same b p few none = by (ℕ-discrete b (e .bucket))
+  key-same : (b p : ℕ) → p ≤ 2 → (b ≡ e .report .bucket → p ≡ w .held → w .place ≡ 8 → Holds w → ⊥) → keyAt t b p ≡ keyAt s b p
+  key-same b p few none = by (ℕ-discrete b (e .report .bucket))
     where
-      own : b ≡ e .bucket → (keyAt t (e .bucket) p ≡ keyAt s (e .bucket) p) ⊎ HeldAt 8 w p → keyAt t (e .bucket) p ≡ keyAt s (e .bucket) p
+      own : b ≡ e .report .bucket → (keyAt t (e .report .bucket) p ≡ keyAt s (e .report .bucket) p) ⊎ HeldAt 8 w p → keyAt t (e .report .bucket) p ≡ keyAt s (e .report .bucket) p
       own is (inl same) = same
       own is (inr stored) = absurd (none is (stored .slot) (stored .at) (stored .holder .kind, stored .holder .held))
 
-      by : Dec (b ≡ e .bucket) → keyAt t b p ≡ keyAt s b p
+      by : Dec (b ≡ e .report .bucket) → keyAt t b p ≡ keyAt s b p
       by (no another) = other-cells act b _ another
       by (yes is) = rw is (own is (key-did _ w _ p few (turn-account act)))
 
@@ -145,7 +145,7 @@ module _ {s t : State} {e : Entry} (act : Turns s e t) (old : Known s) where
   others j other holds =
       let u = recordOf s j in
       let was = old .cells .filled j holds in
-      let apart : home n u ≡ e .bucket → u .held ≡ w .held → Holds w → ⊥ = λ same slot own. apart-was j other holds own (same ∙ here) slot in
+      let apart : home n u ≡ e .report .bucket → u .held ≡ w .held → Holds w → ⊥ = λ same slot own. apart-was j other holds own (same ∙ here) slot in
       record {
         value = λ past. rw (act .buckets) (value-same (home n u) (u .held) (λ same slot at own. apart same slot own) ∙ was .value past);
         key = λ past later. rw (act .buckets)
@@ -158,8 +158,8 @@ module _ {s t : State} {e : Entry} (act : Turns s e t) (old : Known s) where
     -- a valid slot is nobody's, so that it stands as it stood
     still-stands : markAt s b p ≡ 1 → Stands t b p
     still-stands one =
-        let free : b ≡ e .bucket → p ≡ w .held → Holds w → ⊥ =
-        λ same slot own. omega (arith, sym one ∙ ap (λ (b : ℕ). markAt s b p) same ∙ ap (markAt s (e .bucket)) slot ∙ sure-was own) in
+        let free : b ≡ e .report .bucket → p ≡ w .held → Holds w → ⊥ =
+        λ same slot own. omega (arith, sym one ∙ ap (λ (b : ℕ). markAt s b p) same ∙ ap (markAt s (e .report .bucket)) slot ∙ sure-was own) in
         let was = old .cells .valid b p one in
         record {
           lot = rw (act .buckets, key-same b p (marked-few _ p one) (λ same slot at own. free same slot own)) (was .lot);
@@ -167,7 +167,7 @@ module _ {s t : State} {e : Entry} (act : Turns s e t) (old : Known s) where
         }
 
     -- a slot that is committed was filled
-    commits-stands : b ≡ e .bucket → HeldAt 9 w p → Stands t b p
+    commits-stands : b ≡ e .report .bucket → HeldAt 9 w p → Stands t b p
     commits-stands same known =
         let own : Holds w = (known .holder .kind, known .holder .held) in
         let nine = known .at in
@@ -188,13 +188,13 @@ module _ {s t : State} {e : Entry} (act : Turns s e t) (old : Known s) where
         }
 
     valid-then : markAt t b p ≡ 1 → Stands t b p
-    valid-then one = by (ℕ-discrete b (e .bucket))
+    valid-then one = by (ℕ-discrete b (e .report .bucket))
       where
-        own : b ≡ e .bucket → (markAt s (e .bucket) p ≡ 1) ⊎ HeldAt 9 w p → Stands t b p
+        own : b ≡ e .report .bucket → (markAt s (e .report .bucket) p ≡ 1) ⊎ HeldAt 9 w p → Stands t b p
         own is (inl old) = still-stands (rw is old)
         own is (inr known) = commits-stands is known
 
-        by : Dec (b ≡ e .bucket) → Stands t b p
+        by : Dec (b ≡ e .report .bucket) → Stands t b p
         by (no another) = still-stands (ap (λ (m : ℕ). markOf m p) (sym (other-cells act b markCell another)) ∙ one)
         by (yes is) = own is (valid-did _ w _ p (act .ok .sound .slot) (turn-account act) (rw is at one))
 

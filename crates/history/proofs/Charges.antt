@@ -97,7 +97,7 @@ module _ (n : ℕ) (s : View) (e : Entry) (v : Worker) (t : View) (kept : Kept n
   effect = act .effect
 
   -- the worker of a lost swap was stale
-  lost-stale : (a : Action) → Went (s .marks (e .bucket)) w v a → oneIf (lost? a) ≤ stale n (s .marks) w
+  lost-stale : (a : Action) → Went (s .marks (e .report .bucket)) w v a → oneIf (lost? a) ≤ stale n (s .marks) w
   lost-stale Read went = omega arith
   lost-stale Store went = omega arith
   lost-stale Won went = omega arith
@@ -109,17 +109,17 @@ module _ (n : ℕ) (s : View) (e : Entry) (v : Worker) (t : View) (kept : Kept n
       omega (arith, is-stale n (s .marks) w (swapper-aware w swapper) differs)
 
   -- a lost swap leaves its worker at place 1
-  lost-again : (a : Action) → Went (s .marks (e .bucket)) w v a → 2 ≤ v .place → oneIf (lost? a) ≡ 0
+  lost-again : (a : Action) → Went (s .marks (e .report .bucket)) w v a → 2 ≤ v .place → oneIf (lost? a) ≡ 0
   lost-again Read went past = refl
   lost-again Store went past = refl
   lost-again Won went past = refl
   lost-again Lost went past = absurd (omega (arith, went .lost refl .2))
 
-  fresh-word : v .key ≡ w .key → v .word ≡ effectOn effect (s .marks (e .bucket)) → v .word ≡ t .marks (home n v)
+  fresh-word : v .key ≡ w .key → v .word ≡ effectOn effect (s .marks (e .report .bucket)) → v .word ≡ t .marks (home n v)
   fresh-word key word = word ∙ sym (act .here) ∙ ap (t .marks) (act .bucket ∙ ap (λ (k : ℕ). bucketOf k n) (sym key))
 
   -- a turn that changed nothing pays for its lost swap by being stale no more
-  pub quiet-pays : changeOf e ≡ 0 → Minds (s .marks (e .bucket)) w effect v → lossOf e + stale n (t .marks) v ≤ stale n (s .marks) w
+  pub quiet-pays : changeOf e ≡ 0 → Minds (s .marks (e .report .bucket)) w effect v → lossOf e + stale n (t .marks) v ≤ stale n (s .marks) w
   quiet-pays quiet (renews how key word) =
       omega (arith, lost-stale a (act .went), not-stale n (t .marks) v (λ aware. fresh-word key word))
   quiet-pays quiet (keeps is call word from to) =
@@ -130,7 +130,7 @@ module _ (n : ℕ) (s : View) (e : Entry) (v : Worker) (t : View) (kept : Kept n
       omega (arith, lost-stale a (act .went), not-stale n (t .marks) v (λ aware. absurd (unaware aware)))
 
   -- after a change of its own a worker is not stale
-  pub change-fresh : (changeOf e ≡ 0 → ⊥) → Minds (s .marks (e .bucket)) w effect v → stale n (t .marks) v ≡ 0
+  pub change-fresh : (changeOf e ≡ 0 → ⊥) → Minds (s .marks (e .report .bucket)) w effect v → stale n (t .marks) v ≡ 0
   change-fresh loud (renews how key word) = not-stale n (t .marks) v (λ aware. fresh-word key word)
   change-fresh loud (keeps is call word from to) = absurd (loud (act .changes ∙ rw is))
   change-fresh loud (forgets unaware) = not-stale n (t .marks) v (λ aware. absurd (unaware aware))

@@ -62,15 +62,19 @@ module _ (P : Entry → Type 0) where
   none-append (e ∷ es) fs none more =
       none-more e (es ++ fs) (λ holds. none (some-here e es holds)) (none-append es fs (λ some. none (some-later e es some)) more)
 
-  -- where each entry is tested, so is the trace
-  pub some-or-none : ((e : Entry) → P e ⊎ (P e → ⊥)) → (es : List Entry) → Some P es ⊎ None P es
-  some-or-none test [] = inr none-nil
-  some-or-none test (e ∷ es) = by (test e) (some-or-none test es)
-    where
-      by : P e ⊎ (P e → ⊥) → Some P es ⊎ None P es → Some P (e ∷ es) ⊎ None P (e ∷ es)
-      by (inl holds) rest = inl (some-here e es holds)
-      by (inr fails) (inl some) = inl (some-later e es some)
-      by (inr fails) (inr none) = inr (none-more e es fails none)
+-- where each entry is tested, the trace is cut at the last one of which P holds
+pub last-or-none :
+    (P : Entry → Type 0) → ((e : Entry) → P e ⊎ (P e → ⊥)) → (es : List Entry) → Cut (λ e newer. P e × None P newer) es ⊎ None P es
+last-or-none P test [] = inr (none-nil P)
+last-or-none P test (e ∷ es) = by (test e) (last-or-none P test es)
+  where
+    by :
+        P e ⊎ (P e → ⊥)
+        → Cut (λ e newer. P e × None P newer) es ⊎ None P es
+        → Cut (λ e newer. P e × None P newer) (e ∷ es) ⊎ None P (e ∷ es)
+    by first (inl later) = inl (cut-later _ e es later)
+    by (inl holds) (inr none) = inl (record { older = []; entry = e; newer = es; cut = refl; holds = (holds, none) })
+    by (inr fails) (inr none) = inr (none-more P e es fails none)
 
 -- another property of the same entry
 pub some-as : (P : Entry → List Entry → Type 0) (Q : Entry → Type 0) (es : List Entry) (c : Cut P es) → Q (c .entry) → Some Q es

@@ -38,15 +38,11 @@ module _ (o : Opening) (calls : List Call) where
       seen (at .before) (at .turn) (c .here) (back n (at .turn) (c .first) (swap-aware (c .act) swap) (c .act .bucket))
 
   a-swap-loses-only-if : (at : AtMoment (trace o calls)) → Loses (at .turn) → Some (ChangedByAnother (at .turn)) (at .between)
-  a-swap-loses-only-if at lost =
-      lost-since (workersOf o) n (o .plan .version) walk (opened-good o)
-      (at .before) (at .moment) (at .between) (at .turn) (at .after) (at .cut) (at .is) (inr lost) lost
+  a-swap-loses-only-if at lost = lost-since (workersOf o) n (o .plan .version) walk (opened-good o) at (inr lost) lost
 
   a-swap-wins-only-if : (at : AtMoment (trace o calls)) → Wins (at .turn) → None (CommittedOrClosedByAnother (at .turn)) (at .between)
   a-swap-wins-only-if at won =
-      won-since (workersOf o) n (o .plan .version) walk (opened-good o)
-      (at .before) (at .moment) (at .between) (at .turn) (at .after) (at .cut) (at .is) (inl won)
-      (omega (arith, opened-right o .some-bucket)) won
+      won-since (workersOf o) n (o .plan .version) walk (opened-good o) at (inl won) (omega (arith, opened-right o .some-bucket)) won
 
   lost-swaps-bound : lostSwaps (trace o calls) ≤ mostLost o calls
   unfolding total
@@ -65,7 +61,7 @@ module _ (o : Opening) (calls : List Call) where
   -- ---- every swap of the trace, with the moment that it has
 
   module _ (at : AtTurn (trace o calls)) where
-    abbrev at-moment : HasMoment (at .before) (at .turn) → AtMoment (trace o calls)
+    abbrev pub at-moment : HasMoment (at .before) (at .turn) → AtMoment (trace o calls)
     at-moment has =
         record {
           before = has .older;

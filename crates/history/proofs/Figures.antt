@@ -13,7 +13,7 @@ use Rattle.turn.specs.declared.Progress.the-variants.{Ended}
 use Rattle.turn.specs.Worker.{lookKind, insertKind, removeKind, idle}
 use Rattle.turn.proofs.Works.{among}
 use Rattle.history.specs.Trace.{Entry, By, None, total}
-use Rattle.history.specs.Cells.{markAt, keyAt}
+use Rattle.history.specs.Cells.{markWordAt, markAt, keyAt}
 use Rattle.history.specs.InCall.{AtRest, ownTurns}
 use Rattle.history.specs.HowLong.{lookLeast, lookMost, removeMost, insertMost, Alone, NeverEndsAlone, HasRoom, HasLot, StartsSo, Takes}
 use Rattle.history.specs.History.{State, Call, look, insert, remove, ticket, opened, recordOf, insertBy, stateFrom, traceFrom, state, trace}
@@ -49,41 +49,49 @@ module _ (first : List Call) (s : State) (is : state oneWorker first ≡ s) (res
     abbrev between : List Entry
     between = traceFrom s (start ∷ turnsOf 0 more ∷ [])
 
-    -- and then its last turn, with this action and this answer
-    abbrev end : Action → ℕ → Entry
-    end action answer =
+    -- and then its last turn, with this action and this answer, which leaves this mark word
+    abbrev end : Action → ℕ → ℕ → Entry
+    end action answer left =
+        let found = stateFrom s (start ∷ turnsOf 0 more ∷ []) in
         record {
           worker = 0;
-          bucket = 0;
-          was = recordOf (stateFrom s (start ∷ turnsOf 0 more ∷ [])) 0;
-          report = record { action = action; progress = Ended answer; full = false };
+          was = recordOf found 0;
+          report =
+              record {
+                action = action;
+                progress = Ended answer;
+                full = false;
+                bucket = 0;
+                before = markWordAt found 0;
+                after = left;
+              };
         }
 
     takes :
-        (calls : List Call) (kind turns : ℕ) (action : Action) (answer : ℕ)
-        → traceFrom s calls ≡ between ++ (end action answer ∷ [])
-        → total (ended (end action answer)) between ≡ 0
-        → end action answer .was .kind ≡ kind
+        (calls : List Call) (kind turns : ℕ) (action : Action) (answer left : ℕ)
+        → traceFrom s calls ≡ between ++ (end action answer left ∷ [])
+        → total (ended (end action answer left)) between ≡ 0
+        → end action answer left .was .kind ≡ kind
         → ownTurns 0 between + 1 ≡ turns
         → total (λ e. e .worker) between ≡ 0
         → Takes oneWorker (first ++ calls) kind turns
-    takes calls kind turns action answer cut unended of-kind number others =
+    takes calls kind turns action answer left cut unended of-kind number others =
         record {
           at =
               record {
                 before = trace oneWorker first;
                 between = between;
-                turn = end action answer;
+                turn = end action answer left;
                 after = [];
                 cut =
                     traceFrom-append (opened oneWorker) first calls
                     ∙ ap (λ (t : State). trace oneWorker first ++ traceFrom t calls) is
                     ∙ ap (λ (es : List Entry). trace oneWorker first ++ es) cut;
                 rested = rest;
-                unended = none-ended (end action answer) between unended;
+                unended = none-ended (end action answer left) between unended;
               };
           of-kind = of-kind;
-          ends = answered-ends (end action answer) answer refl;
+          ends = answered-ends (end action answer left) answer refl;
           number = number;
           alone = alone between others;
         }
@@ -99,8 +107,16 @@ abbrev two : State
 two = oneBucket (1103806595074 ∷ 7 ∷ 8 ∷ 0 ∷ 1 ∷ 2 ∷ 0 ∷ 0 ∷ []) 2
 
 -- version 3; marks 1, 1, 1
+abbrev fullWord : ℕ
+fullWord = 282578783305731
+
+-- version 3; marks 1, 1, 0
+abbrev closedWord : ℕ
+closedWord = 1103806595075
+
+-- with the mark word of three valid lots
 abbrev three : State
-three = oneBucket (282578783305731 ∷ 7 ∷ 8 ∷ 9 ∷ 1 ∷ 2 ∷ 3 ∷ 0 ∷ []) 3
+three = oneBucket (fullWord ∷ 7 ∷ 8 ∷ 9 ∷ 1 ∷ 2 ∷ 3 ∷ 0 ∷ []) 3
 
 two-is : state oneWorker twoLots ≡ two
 unfolding computed
@@ -123,24 +139,24 @@ three-rested = rested (trace oneWorker threeLots) 35 1 (refl, refl, refl)
 -- §15.1: there is a look that takes ten turns
 pub look-takes-ten : Takes oneWorker longestLook lookKind lookMost
 unfolding computed
-look-takes-ten = takes threeLots three three-is three-rested (look 0 9) 9 (look 0 9 ∷ turnsOf 0 lookMost ∷ []) lookKind lookMost Read 3 refl refl refl refl refl
+look-takes-ten = takes threeLots three three-is three-rested (look 0 9) 9 (look 0 9 ∷ turnsOf 0 lookMost ∷ []) lookKind lookMost Read 3 fullWord refl refl refl refl refl
 
 -- §15.1: there is a look that takes four
 pub look-takes-four : Takes oneWorker shortestLook lookKind lookLeast
 unfolding computed
-look-takes-four = takes threeLots three three-is three-rested (look 0 7) 3 (look 0 7 ∷ turnsOf 0 lookLeast ∷ []) lookKind lookLeast Read 1 refl refl refl refl refl
+look-takes-four = takes threeLots three three-is three-rested (look 0 7) 3 (look 0 7 ∷ turnsOf 0 lookLeast ∷ []) lookKind lookLeast Read 1 fullWord refl refl refl refl refl
 
 -- §15.2: there is a remove alone that takes six
 pub remove-takes-six : Takes oneWorker longestRemove removeKind removeMost
 unfolding computed
 remove-takes-six =
-    takes threeLots three three-is three-rested (remove 0 9) 5 (remove 0 9 ∷ turnsOf 0 removeMost ∷ []) removeKind removeMost Won 3 refl refl refl refl refl
+    takes threeLots three three-is three-rested (remove 0 9) 5 (remove 0 9 ∷ turnsOf 0 removeMost ∷ []) removeKind removeMost Won 3 closedWord refl refl refl refl refl
 
 -- §15.3: there is an insert alone that takes thirteen
 pub insert-takes-thirteen : Takes oneWorker threeLots insertKind insertMost
 unfolding computed
 insert-takes-thirteen =
-    takes twoLots two two-is two-rested (insert 0 9 (ticket 3)) 12 (insert 0 9 (ticket 3) ∷ turnsOf 0 insertMost ∷ []) insertKind insertMost Won 1
+    takes twoLots two two-is two-rested (insert 0 9 (ticket 3)) 12 (insert 0 9 (ticket 3) ∷ turnsOf 0 insertMost ∷ []) insertKind insertMost Won 1 fullWord
     refl refl refl refl refl
 
 -- ---- and without end

@@ -49,7 +49,7 @@ module _ (workers n version : ℕ) where
         rw (act .records) (omega (arith, more))
 
     pays : Pays w effect v
-    pays = moves-pays w effect v (s .marks (e .bucket)) (act .moves)
+    pays = moves-pays w effect v (s .marks (e .report .bucket)) (act .moves)
 
     -- where the turn changed nothing, and where it changed the mark word
     charged :

@@ -147,7 +147,7 @@ module _ (n : ℕ) (s : View) (e : Entry) (v : Worker) (t : View) (kept : Kept n
   effect = act .effect
 
   abbrev m : ℕ
-  m = s .marks (e .bucket)
+  m = s .marks (e .report .bucket)
 
   -- a slot that the worker held has mark 2, on the board and in its word
   pub own-sure : Holds (worker s i) → Sure m (worker s i)
@@ -168,7 +168,7 @@ module _ (n : ℕ) (s : View) (e : Entry) (v : Worker) (t : View) (kept : Kept n
     slot = worker s j .held
 
     -- the mark of a slot that another worker holds, in this bucket and elsewhere
-    others-mark : Dec (home n (worker s j) ≡ e .bucket) → markOf (t .marks (home n (worker s j))) slot ≡ 2
+    others-mark : Dec (home n (worker s j) ≡ e .report .bucket) → markOf (t .marks (home n (worker s j))) slot ≡ 2
     others-mark (no elsewhere) = rw (act .there _ elsewhere) (kept .sure j holds .board)
     others-mark (yes here) =
         let two : markOf m slot ≡ 2 = rw (← here) (kept .sure j holds .board) in

@@ -14,7 +14,6 @@ use Rattle.turn.specs.declared.Stepped.{Stepped}
 use Rattle.turn.specs.declared.Action.the-variants.{Read}
 use Rattle.turn.specs.Worker.{idle, lookFor, insertOf, removeOf}
 use Rattle.turn.specs.Bucket.{cell}
-use Rattle.turn.specs.Places as Places
 use Rattle.engine.specs.declared.Floor.{Floor}
 use Rattle.engine.specs.declared.Started.{Started}
 use Rattle.engine.specs.Board.{bucketOf, bucketAt}
@@ -26,6 +25,7 @@ use Rattle.history.specs.History.{startedAs, after, state, opened}
 use Rattle.history.specs.Unbroken.{Unbroken}
 use Rattle.history.specs.Cells.{home}
 use Rattle.history.specs.HowLong.{lookMost, removeMost, insertMost, IsIdle, EndsAlone, NeverEndsAlone, HasRoom, HasLot, StartsSo, IsDone, HowLong}
+use Rattle.history.proofs.Acting.{entry}
 use Rattle.history.proofs.Histories.{stateFrom-then}
 use Rattle.history.proofs.Unrefused.{busy-moves, idle-starts}
 use Rattle.history.proofs.Unbroken.{state-unbroken, number-is}
@@ -49,7 +49,7 @@ busy-done o calls i under busy =
     let s = state o calls in
     let ok = state-unbroken o calls in
     let none = number-is s ok i (busy-moves s ok i (omega (arith, under, state-workers o calls)) busy) in
-    (Places.turn (bucketAt (s .board) (bucketOf (recordOf s i .key) (s .floor .buckets))) (recordOf s i) .stepped .report, rw none)
+    (entry s i .report, rw none)
 
 -- ---- a look, as a call that can take so many turns
 

@@ -1,10 +1,10 @@
--- What each effect does to a mark word on which it is lawful: to the version, to the number of valid marks, and to the mark of a slot
--- that it does not touch. Assumes nothing.
+-- What each effect does to a mark word on which it is lawful: to the version, to the number of valid marks, to the word as a whole, and to
+-- the mark of a slot that it does not touch. Assumes nothing.
 use Prim.Native.Nat.{ℕ, _+_, _%_, _^_, _≤_}
-use mathlib.Core.Path.{_≡_, refl, ap, _∙_}
+use mathlib.Core.Path.{_≡_, refl, sym, ap, _∙_}
 use native.Mathlib.Omega.{arith}
 use Rattle.mark.specs.Word.{version, markOf, setMark, nextVersion, isMark, countMarks}
-use Rattle.mark.proofs.Fields.{version-lt, version-set, version-bump, mark-set-other, mark-bump}
+use Rattle.mark.proofs.Fields.{version-lt, version-set, version-bump, mark-set, mark-set-other, mark-bump}
 use Rattle.mark.proofs.Counts.{count-set, count-bump}
 use Rattle.turn.specs.Effects.{Effect, none, claim, commit, free, close, effectOn}
 
@@ -82,6 +82,20 @@ quiet-effect (claim s) m quiet = absurd (omega arith)
 quiet-effect (commit s) m quiet = absurd (omega arith)
 quiet-effect (free s) m quiet = absurd (omega arith)
 quiet-effect (close s) m quiet = absurd (omega arith)
+
+-- a set of another mark leaves another word
+another-set : (m s old new : ℕ) → (s ≤ 2) × (markOf m s ≡ old) → new ≤ 2 → (new ≡ old → ⊥) → setMark m s new ≡ m → ⊥
+another-set m s old new known few other same =
+    other (sym (mark-set m s new (omega arith) (omega arith)) ∙ ap (λ (x : ℕ). markOf x s) same ∙ known .1)
+
+-- a lawful change leaves another mark word than it finds
+pub change-effect : (e : Effect) (m : ℕ) → Lawful e m → changed e ≡ 1 → effectOn e m ≡ m → ⊥
+change-effect none m law one same = omega arith
+change-effect (claim s) m law one same = another-set m s 0 2 law (omega arith) (omega arith) same
+change-effect (commit s) m law one same =
+    omega (arith, version-effect (commit s) m, ap version same, version-lt m)
+change-effect (free s) m law one same = another-set m s 2 0 law (omega arith) (omega arith) same
+change-effect (close s) m law one same = another-set m s 1 0 law (omega arith) (omega arith) same
 
 -- an effect at another slot, or none
 abbrev pub Spares : ℕ → Effect → Type 0

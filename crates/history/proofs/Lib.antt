@@ -1,5 +1,6 @@
 -- the statements
 pub mod DemandThree
+pub mod Reports
 pub mod Openings
 pub mod NoValueComesBack
 pub mod Unbroken
@@ -32,6 +33,7 @@ pub mod Beginning
 pub mod Minds
 pub mod Remembers
 pub mod Swaps
+pub mod Words
 -- tickets and values
 pub mod Steps
 pub mod Account

@@ -132,7 +132,7 @@ module _ (lot : ℕ) (words : ℕ → List ℕ) where
   by-turn k before rest (on {v} looked) is =
       let record-is : at (suc k) ≡ v = ap (λ (s : Stepped). s .worker) is in
       rest (rw record-is (subst (λ (n : ℕ). Looked n v) (omega arith) looked))
-      (before-next k before (ap (λ (s : Stepped). s .report .progress) is))
+      (before-next k before (ap (λ (s : Stepped). s .progress) is))
   by-turn k before rest (over answer least most) is =
       record {
         turns = k + 1;
@@ -142,7 +142,7 @@ module _ (lot : ℕ) (words : ℕ → List ℕ) where
         answer = answer;
         ends = λ j same.
             let here : j ≡ k = omega arith in
-            ap (progressAt words (lookFor lot)) here ∙ ap (λ (s : Stepped). s .report .progress) is;
+            ap (progressAt words (lookFor lot)) here ∙ ap (λ (s : Stepped). s .progress) is;
       }
 
   ends-from : (fuel k : ℕ) → k + fuel ≡ lookMost → Looked k (at k) → Before k → LookTakes lot words

@@ -67,7 +67,7 @@ module _ {s t : State} {e : Entry} (past : List Entry) (act : Turns s e t) (old 
   abbrev v : Worker
   v = stepOf s e .stepped .worker
 
-  progress-is : e .report .progress ≡ stepOf s e .stepped .report .progress
+  progress-is : e .report .progress ≡ stepOf s e .stepped .progress
   progress-is = ap (λ (r : Report). r .progress) (act .report)
 
   had-then : (j : ℕ) → hadFrom j 0 (past ++ (e ∷ [])) ≡ oneMore j (hadFrom j 0 past) e
@@ -90,7 +90,7 @@ module _ {s t : State} {e : Entry} (past : List Entry) (act : Turns s e t) (old 
   -- what a look's turn leaves goes with its number, and it came in time
   by-next : {x : Stepped} → Next had x → stepOf s e .stepped ≡ x → Counts (oneMore i had e) (x .worker) × Within past e
   by-next (on {v} looked) is =
-      let goes : Continues e = progress-is ∙ ap (λ (x : Stepped). x .report .progress) is in (
+      let goes : Continues e = progress-is ∙ ap (λ (x : Stepped). x .progress) is in (
         record {
           rests = λ idles. absurd (omega (arith, looked .from, ap (λ (x : Worker). x .place) idles));
           looks = λ look. subst (λ (n : ℕ). Looked n v) (sym (goes-now i had e refl goes)) looked;
@@ -98,13 +98,13 @@ module _ {s t : State} {e : Entry} (past : List Entry) (act : Turns s e t) (old 
         record { most = omega (arith, looked .most, looked .slot, looked .to); least = λ ends. absurd (ends goes) },
       )
   by-next (over answer least most) is =
-      let ends : Ends e = answered-ends e answer (progress-is ∙ ap (λ (x : Stepped). x .report .progress) is) in (
+      let ends : Ends e = answered-ends e answer (progress-is ∙ ap (λ (x : Stepped). x .progress) is) in (
         record { rests = λ idles. ended-now i had e refl ends; looks = λ look. absurd (omega arith) },
         record { most = most; least = λ ends. least },
       )
 
   looks-next : e .was .kind ≡ lookKind → Counts (oneMore i had e) v × Within past e
-  looks-next look = by-next (look-next had (e .was) (counts-was .looks look) (bucketAt (s .board) (e .bucket))) refl
+  looks-next look = by-next (look-next had (e .was) (counts-was .looks look) (bucketAt (s .board) (e .report .bucket))) refl
 
   mine : Dec (e .was .kind ≡ lookKind) → Counts (oneMore i had e) v
   mine (yes look) = looks-next look .0

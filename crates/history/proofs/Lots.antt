@@ -34,16 +34,16 @@ module _ (count : Entry → ℕ) where
   inFirst (suc n) e = inFirst n e + inBucket n count e
 
   -- an entry of a later bucket does not count
-  out-of-first : (n : ℕ) (e : Entry) → n ≤ e .bucket → inFirst n e ≡ 0
+  out-of-first : (n : ℕ) (e : Entry) → n ≤ e .report .bucket → inFirst n e ≡ 0
   out-of-first zero e past = refl
   out-of-first (suc n) e past = omega (arith, out-of-first n e (omega arith), out-of-bucket n count e (omega arith))
 
   -- an entry of one of the first n buckets counts once
-  in-first : (n : ℕ) (e : Entry) → e .bucket < n → inFirst n e ≡ count e
+  in-first : (n : ℕ) (e : Entry) → e .report .bucket < n → inFirst n e ≡ count e
   in-first zero e within = absurd (omega arith)
-  in-first (suc n) e within = by (ℕ-discrete (e .bucket) n) (in-first n e)
+  in-first (suc n) e within = by (ℕ-discrete (e .report .bucket) n) (in-first n e)
     where
-      by : Dec (e .bucket ≡ n) → (e .bucket < n → inFirst n e ≡ count e) → inFirst n e + inBucket n count e ≡ count e
+      by : Dec (e .report .bucket ≡ n) → (e .report .bucket < n → inFirst n e ≡ count e) → inFirst n e + inBucket n count e ≡ count e
       by (yes is) earlier = omega (arith, out-of-first n e (omega (arith, is)), in-bucket n count e is)
       by (no other) earlier = omega (arith, earlier (omega arith), out-of-bucket n count e other)
 
@@ -65,7 +65,7 @@ module _ (count : Entry → ℕ) where
   first-all some stays = refl
   first-all some (starts start rest) = first-all some rest
   first-all {n} some (acts {s = s} {e = e} act rest) =
-      let within : e .bucket < n = omega (arith, act .bucket, mod-lt (worker s (e .worker) .key) some) in
+      let within : e .report .bucket < n = omega (arith, act .bucket, mod-lt (worker s (e .worker) .key) some) in
       omega (arith, in-first n e within, first-all some rest)
 
 -- ---- the lots of the first buckets

@@ -21,6 +21,7 @@ use Rattle.history.specs.Openings.{Asked, asks, opens, reopenNumber, lea
 use Rattle.history.specs.Openings.{History, stateSince, turnsSince, fromOpening, reopened, goesOn, since, AnyOrder}
 use Rattle.history.proofs.Histories.{stateFrom-then, traceFrom-then}
 use Rattle.history.proofs.DemandThree.{demand-three}
+use Rattle.history.proofs.Reports.{reports-chain}
 use Rattle.history.proofs.SameSizes.{state-workers, state-buckets}
 use Rattle.history.proofs.NoValueComesBack.{no-value-comes-back}
 use Rattle.history.proofs.Lots.{count-tells}
@@ -92,6 +93,7 @@ any-order o asked =
       demand = demand-three (h .opening) (h .calls);
       values = no-value-comes-back (h .opening) (h .calls);
       counted = count-tells (h .opening) (h .calls);
+      reports = reports-chain (h .opening) (h .calls);
       lasting = how-long (h .opening) (h .calls);
       cells = subst Cells (sym (all .stands)) (state-cells (h .opening) (h .calls));
       unbroken = subst Unbroken (sym (all .stands)) (state-unbroken (h .opening) (h .calls));

@@ -2,32 +2,35 @@
 -- turn. Assumes nothing.
 use Prim.Native.Nat.{ℕ}
 use mathlib.Core.Bool.{false}
-use mathlib.Core.List.{List, []}
+use mathlib.Core.List.{List, [], map}
 use mathlib.Core.Logic.{inl, Dec·and}
 use mathlib.Core.Path.{_≡_, refl}
 use native.Mathlib.Decide.{ℕ-discrete}
 use native.Mathlib.Omega.{arith}
 use lib.ListN.{length, replicate}
 use Rattle.mark.specs.Word as Word
-use Rattle.turn.specs.declared.Action.the-variants.{Won}
-use Rattle.turn.specs.declared.Progress.the-variants.{GoesOn}
+use Rattle.turn.specs.declared.Action.{Action}
+use Rattle.turn.specs.declared.Action.the-variants.{Read, Won, Lost}
+use Rattle.turn.specs.declared.Progress.{Progress}
+use Rattle.turn.specs.declared.Progress.the-variants.{GoesOn, Ended}
+use Rattle.turn.specs.declared.Report.{Report}
 use Rattle.turn.specs.Worker as Record
 use Rattle.turn.specs.Bucket as Bucket
-use Rattle.turn.specs.Bucket.{cell, markCell}
 use Rattle.turn.specs.Places as Places
 use Rattle.turn.specs.Turn as Turn
 use Rattle.engine.specs.Board as Board
-use Rattle.engine.specs.Board.{bucketAt}
 use Rattle.engine.specs.Refusals as Refusals
 use Rattle.engine.specs.Refusals.{openNumber}
 use Rattle.engine.specs.Calls as Calls
 use Rattle.engine.specs.Calls.{planned, blank}
-use Rattle.history.specs.Trace.{Entry, Loses, Claims, Commits, Closes, Frees, ReadsWhole, Some, total}
+use Rattle.history.specs.Trace.{Entry, Loses, Claims, Commits, Closes, Frees, ReadsWhole, Cut, Some, total}
 use Rattle.history.specs.Counts.{lostSwaps, changesIn}
 use Rattle.history.specs.History.{Opening, Call, recordOf, state, trace, turnEntries, stateFrom, traceFrom, sumFrom, inserts, removes}
 use Rattle.history.specs.Moment.{AnothersIn, HasMoment}
-use Rattle.history.specs.Trials.{A, planFor, sleeper, wordRepeats, repeatedWord, refusedStarts}
-use Rattle.history.proofs.Cuts.{cut-later}
+use Rattle.history.specs.Reports.{MadeLose}
+use Rattle.history.specs.Cells.{markWordAt}
+use Rattle.history.specs.Trials.{A, planFor, sleeper, sleeperWords, wordRepeats, repeatedWord, refusedStarts}
+use Rattle.history.proofs.Cuts.{cut-later, none-nil}
 use Rattle.history.proofs.Found.{cut-by-number, found, moment-found}
 
 -- ---- the floors
@@ -133,7 +136,13 @@ refused-totals = record { turns-are = refl; changes-are = refl; lost-are = refl;
 
 -- ---- what came between
 
--- a lost swap at turn 30 of P6, its moment at turn 12, and a close and a commit by another worker in between
+-- a report of bucket 0, of no full round, with the word that the turn found and the one that it left
+abbrev report : Action → Progress → ℕ → ℕ → Report
+report action progress found left =
+    record { action = action; progress = progress; full = false; bucket = 0; before = found; after = left }
+
+-- a lost swap at turn 30 of P6, its moment at turn 12, a close and a commit by another worker in between, and turn 29, which made it lose; with
+-- the reports of these turns
 pub record Sleeps : Type 0 where
   pub lost : Some Loses sleeperTrace
   pub turn-30 : length (lost .older) ≡ 29
@@ -141,6 +150,15 @@ pub record Sleeps : Type 0 where
   pub turn-12 : length (moment .older) ≡ 11
   pub closed : Some (λ e. AnothersIn (lost .entry) e × Closes e) (moment .newer)
   pub committed : Some (λ e. AnothersIn (lost .entry) e × Commits e) (moment .newer)
+  -- the swap's report, and in it the word that it found: version 2, mark 1
+  pub report-30 : lost .entry .report ≡ report Lost GoesOn 4294967298 4294967298
+  -- at its moment its worker had left another one there: version 1, mark 1
+  pub report-12 : moment .entry .report ≡ report Read GoesOn 4294967297 4294967297
+  -- the word that it found was left by turn 29, which made it lose: worker 0's commit of ticket 2
+  pub made-lose : Cut (MadeLose (lost .entry)) (lost .older)
+  pub turn-29 : length (made-lose .older) ≡ 28
+  pub whose : made-lose .entry .worker ≡ 0
+  pub report-29 : made-lose .entry .report ≡ report Won (Ended 1) 8589934593 4294967298
 
 -- the sleeper loses the swap that it fell asleep before, since the lot was closed and opened again after its moment
 pub sleeper-sleeps : Sleeps
@@ -156,7 +174,20 @@ sleeper-sleeps =
       turn-12 = refl;
       closed = found (λ e. AnothersIn (s .entry) e × Closes e) (m .newer) 5 (((λ e. omega arith), refl), (refl, refl));
       committed = found (λ e. AnothersIn (s .entry) e × Commits e) (m .newer) 16 (((λ e. omega arith), refl), (refl, refl));
+      report-30 = refl;
+      report-12 = refl;
+      made-lose =
+          cut-by-number (MadeLose (s .entry)) (s .older) 28
+          (record { another = (((λ e. omega arith), refl), inl refl); differs = omega arith; left = refl; latest = none-nil _ });
+      turn-29 = refl;
+      whose = refl;
+      report-29 = refl;
     }
+
+-- the words that each of the sleeper's turns reports
+pub sleeper-words : map (λ (e : Entry). (e .report .before, e .report .after)) sleeperTrace ≡ sleeperWords
+unfolding computed
+sleeper-words = refl
 
 -- A's last turn of P11, the mark word before it and the one that A read, and a slot freed and one claimed by others since its moment
 pub record Repeats : Type 0 where
@@ -165,7 +196,7 @@ pub record Repeats : Type 0 where
   pub before : won .older ≡ trace threeWorkers wordRepeats
   -- version 1; marks 2, 1, 0
   pub read : recordOf (state threeWorkers wordRepeats) A .word ≡ 1108101562369
-  pub again : cell (bucketAt (state threeWorkers wordRepeats .board) 0) markCell ≡ 1108101562369
+  pub again : markWordAt (state threeWorkers wordRepeats) 0 ≡ 1108101562369
   pub moment : HasMoment (won .older) (won .entry)
   pub reading : ReadsWhole (moment .entry)
   pub freed : Some (λ e. AnothersIn (won .entry) e × Frees e) (moment .newer)
@@ -175,7 +206,12 @@ pub record Repeats : Type 0 where
 pub word-repeats : Repeats
 unfolding computed
 word-repeats =
-    let y : Entry = record { worker = A; bucket = 0; was = recordOf (state threeWorkers wordRepeats) A; report = record { action = Won; progress = GoesOn; full = false } } in
+    let y : Entry =
+    record {
+      worker = A;
+      was = recordOf (state threeWorkers wordRepeats) A;
+      report = report Won GoesOn 1108101562369 564058054983681;
+    } in
     let m : HasMoment (trace threeWorkers wordRepeats) y =
     moment-found y (trace threeWorkers wordRepeats) 29
     (record { own = refl; sees = inl refl; latest = refl; bucket = refl; first = refl; rest = refl }) in

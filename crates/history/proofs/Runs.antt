@@ -1,4 +1,5 @@
--- A run is its turns, called one by one, as many as it reports as done; and what it counts is what they did. Assumes nothing.
+-- A run is its turns, called one by one, as many as it reports as done; what it counts is what they did, and its last report the last one's.
+-- Assumes nothing.
 use Prim.Native.Nat.{ℕ, _+_}
 use mathlib.Core.Bool.{Bool, true, false, cond}
 use mathlib.Core.List.{List, [], _∷_, _++_, map}
@@ -10,15 +11,16 @@ use borrow.Author.Tests.{eqb-true}
 use Rattle.mark.proofs.Choices.{by-cases, passes}
 use Rattle.turn.specs.declared.Worker.{Worker}
 use Rattle.turn.specs.declared.Report.{Report}
-use Rattle.turn.specs.Turn.{Done, Turned, After}
+use Rattle.turn.specs.Turn.{Done, Turned, After, noReport}
 use Rattle.turn.specs.Turn as Turn
 use Rattle.engine.specs.declared.Totals.{Totals}
 use Rattle.engine.specs.Refusals.{wrongSizes, turnNumber, runNumber}
-use Rattle.engine.specs.Calls.{Ran, tallied, noTurns, standing, goOn, turned, turnCall, runFrom, runCall}
+use Rattle.engine.specs.Calls.{Ran, tallied, noTurns, standing, unbegun, goOn, turned, turnCall, runFrom, runCall}
 use Rattle.engine.proofs.Stops.{run-turn-is-turn}
 use Rattle.engine.proofs.Keeps.{turn-keeps}
 use Rattle.engine.proofs.Tallies.{losses-lost, losses-other, changes-change, changes-other}
 use Rattle.history.specs.Trace.{Entry, total}
+use Rattle.history.specs.Reports.{lastReport}
 use Rattle.history.specs.Counts.{isLost, isChange, lostSwaps, changesIn, fullRounds, countsOf}
 use Rattle.history.specs.History.{State, Opening, Call, turn, run, opened, seatOf, recordOf, turnBy, runOf, turnedAs, ranAs, after}
 use Rattle.history.specs.History.{entryOf, andThen, turnEntries, entries, stateFrom, traceFrom, state, trace}
@@ -36,25 +38,29 @@ counted t (e ∷ es) = counted (tallied (e .was .place) (e .report) t) es
 abbrev RightSizes : State → Type 0
 RightSizes s = wrongSizes (s .floor) (s .board) (length (s .records)) ≡ false
 
--- turns from s, with these totals before them, came to x with these entries: as many of them are done as there are entries
-record Follows (s : State) (turns : List ℕ) (t : Totals) (x : After Ran) (es : List Entry) : Type 0 where
+-- turns from s, with these totals and this report before them, came to x with these entries: as many are done as there are entries
+record Follows (s : State) (turns : List ℕ) (t : Totals) (r : Report) (x : After Ran) (es : List Entry) : Type 0 where
   left : ranAs s x ≡ stateFrom s (map turn (take (length es) turns))
   did : es ≡ traceFrom s (map turn (take (length es) turns))
   totals : x .handed .totals ≡ counted t es
+  last : x .handed .last ≡ lastReport r es
 
 -- no turn is done
-none-follow : (s : State) (turns : List ℕ) (t : Totals) (number : ℕ) → Follows s turns t (standing (s .board) (s .records) t number) []
-unfolding stateFrom traceFrom
-none-follow s turns t number = record { left = refl; did = refl; totals = refl }
+none-follow :
+    (s : State) (turns : List ℕ) (t : Totals) (r : Report) (number : ℕ)
+    → Follows s turns t r (standing (s .board) (s .records) t r number) []
+unfolding stateFrom traceFrom lastReport
+none-follow s turns t r number = record { left = refl; did = refl; totals = refl; last = refl }
 
 -- a turn keeps the sizes
 still-right : (s : State) (i : ℕ) → RightSizes s → RightSizes (turnedAs s i (turnBy s i))
 unfolding wrongSizes
 still-right s i right = rw (length-set (s .records) i (turnBy s i .handed .worker), turn-keeps (s .board) (seatOf s i) (recordOf s i) .long) right
 
--- how they come out from a state, with any totals before them
+-- how they come out from a state, with any totals and any report before them
 abbrev Turns : State → List ℕ → Type 0
-Turns s turns = (t : Totals) → Follows s turns t (runFrom (s .floor) turns (standing (s .board) (s .records) t 0)) (turnEntries s turns)
+Turns s turns =
+    (t : Totals) (r : Report) → Follows s turns t r (runFrom (s .floor) turns (standing (s .board) (s .records) t r 0)) (turnEntries s turns)
 
 module _ (s : State) (i : ℕ) (turns : List ℕ) where
   -- how they come out where the turn of worker i, the first, came to x
@@ -62,17 +68,17 @@ module _ (s : State) (i : ℕ) (turns : List ℕ) where
   First x =
       turnBy s i ≡ x
       → Turns (turnedAs s i x) turns
-      → (t : Totals)
-      → Follows s (i ∷ turns) t
+      → (t : Totals) (last : Report)
+      → Follows s (i ∷ turns) t last
       (goOn (runFrom (s .floor) turns) i (recordOf s i .place) (x .words) (x .handed .worker) (x .handed .answer)
-      (record { records = s .records; totals = t; stop = 0 }))
+      (record { records = s .records; totals = t; last = last; stop = 0 }))
       (andThen (entryOf s i (x .handed .answer)) (turnEntries (turnedAs s i x) turns))
 
   -- it is done, and the others come after it
   first-done : (board : List ℕ) (w : Worker) (r : Report) → First (Turn.after board (record { worker = w; answer = Done r }))
-  unfolding stateFrom traceFrom
-  first-done board w r is others t =
-      let rest = others (tallied (recordOf s i .place) r t) in
+  unfolding stateFrom traceFrom lastReport
+  first-done board w r is others t last =
+      let rest = others (tallied (recordOf s i .place) r t) r in
       let next : State = turnedAs s i (Turn.after board (record { worker = w; answer = Done r })) in
       let done : List Call = map turn (take (length (turnEntries next turns)) turns) in
       record {
@@ -81,13 +87,14 @@ module _ (s : State) (i : ℕ) (turns : List ℕ) where
             ap (λ (es : List Entry). entryOf s i (Done r) ++ es) (rest .did)
             ∙ ap (λ x. entryOf s i (x .handed .answer) ++ traceFrom (turnedAs s i x) done) (sym is);
         totals = rest .totals;
+        last = rest .last;
       }
 
   first : First (turnBy s i)
   unfolding turnCall turned
   first =
       by-cases First (eqb (turnNumber (s .floor) (s .board) (length (s .records)) i (recordOf s i)) 0) _ _
-      (λ is. first-done _ _ _) (λ isnot same others t. none-follow s (i ∷ turns) t _)
+      (λ is. first-done _ _ _) (λ isnot same others t last. none-follow s (i ∷ turns) t last _)
 
   more : RightSizes s → Turns (turnedAs s i (turnBy s i)) turns → Turns s (i ∷ turns)
   unfolding runFrom turnEntries
@@ -95,7 +102,7 @@ module _ (s : State) (i : ℕ) (turns : List ℕ) where
 
 turns-follow : (s : State) (turns : List ℕ) → RightSizes s → Turns s turns
 unfolding runFrom turnEntries
-turns-follow s [] right = λ t. none-follow s [] t 0
+turns-follow s [] right = λ t r. none-follow s [] t r 0
 turns-follow s (i ∷ turns) right = more s i turns right (turns-follow (turnedAs s i (turnBy s i)) turns (still-right s i right))
 
 -- ---- a run
@@ -108,14 +115,14 @@ module _ (s : State) (turns : List ℕ) where
   either-follows :
       (t : Bool)
       → eqb number 0 ≡ t
-      → Follows s turns noTurns
-      (cond t (runFrom (s .floor) turns (standing (s .board) (s .records) noTurns 0)) (standing (s .board) (s .records) noTurns number))
+      → Follows s turns noTurns noReport
+      (cond t (runFrom (s .floor) turns (unbegun (s .board) (s .records) 0)) (unbegun (s .board) (s .records) number))
       (cond t (turnEntries s turns) [])
   unfolding runNumber wrongSizes
-  either-follows true is = turns-follow s turns (passes _ _ _ (eqb-true _ _ is) .0) noTurns
-  either-follows false isnot = none-follow s turns noTurns _
+  either-follows true is = turns-follow s turns (passes _ _ _ (eqb-true _ _ is) .0) noTurns noReport
+  either-follows false isnot = none-follow s turns noTurns noReport _
 
-  run-follows : Follows s turns noTurns (runOf s turns) (entries s (run turns))
+  run-follows : Follows s turns noTurns noReport (runOf s turns) (entries s (run turns))
   unfolding runCall
   run-follows = either-follows _ refl
 
@@ -171,6 +178,10 @@ module _ (s : State) (turns : List ℕ) where
   -- so the totals that a run reports are the counts of its entries
   pub run-totals : runOf s turns .handed .totals ≡ countsOf (entries s (run turns))
   run-totals = same-totals _ (entries s (run turns)) run-turns run-changes run-lost run-full
+
+  -- the report that a run keeps is that of its last entry
+  pub run-last : runOf s turns .handed .last ≡ lastReport noReport (entries s (run turns))
+  run-last = run-follows s turns .last
 
   -- ---- what it leaves and does
 

@@ -14,7 +14,7 @@ use Rattle.turn.specs.declared.Worker.{Worker}
 use Rattle.turn.specs.Worker.{insertKind, lookFor, insertOf, removeOf}
 use Rattle.turn.specs.Places.{Step}
 use Rattle.turn.specs.Places as Places
-use Rattle.turn.specs.Turn.{Turned, After, refusing}
+use Rattle.turn.specs.Turn.{Turned, After, reportOf, refusing}
 use Rattle.turn.specs.Turn as Turn
 use Rattle.turn.proofs.Sound.{Accepted}
 use Rattle.engine.specs.declared.Floor.{Floor}
@@ -58,14 +58,14 @@ pub record Begins (s : State) (v : Worker) (spent : List ℕ) (t : State) : Type
 
 -- what a turn that is done did to the bucket and the record
 abbrev pub stepOf : State → Entry → Step
-stepOf s e = Places.turn (bucketAt (s .board) (e .bucket)) (e .was)
+stepOf s e = Places.turn (bucketAt (s .board) (e .report .bucket)) (e .was)
 
 -- a turn that is done
 pub record Turns (s : State) (e : Entry) (t : State) : Type 0 where
-  pub ok : Accepted (bucketAt (s .board) (e .bucket)) (e .was)
+  pub ok : Accepted (bucketAt (s .board) (e .report .bucket)) (e .was)
   pub acts : Acts (s .floor .buckets) (view s) e (stepOf s e .stepped .worker) (view t)
-  pub report : e .report ≡ stepOf s e .stepped .report
-  pub board : t .board ≡ withBucket (s .board) (e .bucket) (stepOf s e .bucket)
+  pub report : e .report ≡ reportOf (e .report .bucket) (bucketAt (s .board) (e .report .bucket)) (stepOf s e)
+  pub board : t .board ≡ withBucket (s .board) (e .report .bucket) (stepOf s e .bucket)
   pub buckets : t .floor .buckets ≡ s .floor .buckets
 
 module _ (s : State) (i : ℕ) where

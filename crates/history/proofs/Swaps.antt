@@ -10,30 +10,32 @@ use native.Mathlib.Omega.{arith}
 use Rattle.turn.specs.declared.Worker.{Worker}
 use Rattle.turn.proofs.Effects.{Swapper, expects}
 use Rattle.engine.specs.Board.{bucketOf}
-use Rattle.history.specs.Trace.{Entry, Wins, Loses, Swaps, Commits, Closes, Changes, Some, None, total}
+use Rattle.history.specs.Trace.{Entry, Wins, Loses, Swaps, Commits, Closes, Changes, In, Cut, Some, None, total}
 use Rattle.history.specs.Counts.{isChange, isCommit, isClose}
-use Rattle.history.specs.Moment.{Own, IsMoment, HasMoment, ChangedByAnother, CommittedOrClosedByAnother}
+use Rattle.history.specs.Moment.{AtMoment, HasMoment, ChangedByAnother, CommittedOrClosedByAnother}
+use Rattle.history.specs.Reports.{MadeLose}
 use Rattle.history.specs.Cells.{home}
 use Rattle.history.proofs.View.{View, worker, Aware, swapper-aware, Acts, quiet-marks, Walk, stays, starts, acts, new-record}
 use Rattle.history.proofs.Counts.{one-yes, one-or-none, changeOf, commitOf, closeOf}
 use Rattle.history.proofs.Counts.{inBucket, in-bucket, in-bucket-le, onto, total-onto}
 use Rattle.history.proofs.Versions.{Tells}
+use Rattle.history.proofs.Words.{act-changes, none-differs}
 use Rattle.history.proofs.Minds.{Minds, renews, keeps, forgets, act-expects}
 use Rattle.history.proofs.Good.{Good, act-good, walk-good}
-use Rattle.history.proofs.Cuts.{some-here, some-later, some-or-none, some-as, some-counts, CutAt, cut-at}
+use Rattle.history.proofs.Cuts.{some-here, some-later, last-or-none, some-as, some-counts, CutAt, cut-at}
 use Rattle.history.proofs.Remembers.{act-minds, sees-not, Still, back}
 
 -- ---- a bucket that no one changes
 
--- an entry that changes the mark word of bucket b
+-- a turn in bucket b that changed its mark word
 abbrev ChangesIn : ℕ → Entry → Type 0
-ChangesIn b e = (e .bucket ≡ b) × Changes e
+ChangesIn b e = In b e × Changes e
 
 module _ {n : ℕ} (b : ℕ) where
   act-quiet : {s : View} {e : Entry} {v : Worker} {t : View} → Acts n s e v t → (ChangesIn b e → ⊥) → t .marks b ≡ s .marks b
-  act-quiet {s} {e} {v} {t} act none = by (ℕ-discrete b (e .bucket)) (one-or-none (isChange e))
+  act-quiet {s} {e} {v} {t} act none = by (ℕ-discrete b (e .report .bucket)) (one-or-none (isChange e))
     where
-      by : Dec (b ≡ e .bucket) → Changes e ⊎ (changeOf e ≡ 0) → t .marks b ≡ s .marks b
+      by : Dec (b ≡ e .report .bucket) → Changes e ⊎ (changeOf e ≡ 0) → t .marks b ≡ s .marks b
       by (no other) change = act .there b other
       by (yes is) (inl change) = absurd (none (sym is, change))
       by (yes is) (inr quiet) = quiet-marks act quiet b
@@ -46,9 +48,9 @@ module _ {n : ℕ} (b : ℕ) where
       walk-quiet rest (λ some. none (some-later _ _ _ some)) ∙ act-quiet act (λ change. none (some-here _ _ _ change))
 
 changes-test : (b : ℕ) (e : Entry) → ChangesIn b e ⊎ (ChangesIn b e → ⊥)
-changes-test b e = by (ℕ-discrete (e .bucket) b) (one-or-none (isChange e))
+changes-test b e = by (ℕ-discrete (e .report .bucket) b) (one-or-none (isChange e))
   where
-    by : Dec (e .bucket ≡ b) → Changes e ⊎ (changeOf e ≡ 0) → ChangesIn b e ⊎ (ChangesIn b e → ⊥)
+    by : Dec (e .report .bucket ≡ b) → Changes e ⊎ (changeOf e ≡ 0) → ChangesIn b e ⊎ (ChangesIn b e → ⊥)
     by (no other) change = inr (λ is. other (is .0))
     by (yes is) (inl change) = inl (is, change)
     by (yes is) (inr quiet) = inr (λ change. omega (arith, one-yes (isChange e) (change .1)))
@@ -68,14 +70,21 @@ module _ {n : ℕ} {s : View} {y : Entry} {v : Worker} {t : View} (act : Acts n 
 -- ---- a swap and its moment
 
 module _ (workers n opened : ℕ) {s u : View} {es : List Entry} {k : ℕ} (walk : Walk n s es k u) (good : Good workers n opened s [] 0) where
-  module _
-      (before : List Entry) (x : Entry) (between : List Entry) (y : Entry) (after : List Entry)
-      (cut : es ≡ before ++ (x ∷ (between ++ (y ∷ after)))) (moment : IsMoment x between y) (swap : Swaps y) where
-    abbrev at-x : CutAt n s before x (between ++ (y ∷ after)) u
-    at-x = cut-at n x (between ++ (y ∷ after)) before walk cut
+  module _ (at : AtMoment es) (swap : Swaps (at .turn)) where
+    abbrev x : Entry
+    x = at .moment
 
-    abbrev at-y : CutAt n (at-x .there) between y after u
-    at-y = cut-at n y after between (at-x .rest) refl
+    abbrev between : List Entry
+    between = at .between
+
+    abbrev y : Entry
+    y = at .turn
+
+    abbrev at-x : CutAt n s (at .before) x (between ++ (y ∷ at .after)) u
+    at-x = cut-at n x (between ++ (y ∷ at .after)) (at .before) walk (at .cut)
+
+    abbrev at-y : CutAt n (at-x .there) between y (at .after) u
+    at-y = cut-at n y (at .after) between (at-x .rest) refl
 
     abbrev then : View
     then = at-x .there
@@ -86,8 +95,12 @@ module _ (workers n opened : ℕ) {s u : View} {es : List Entry} {k : ℕ} (walk
     abbrev w : Worker
     w = worker now (y .worker)
 
+    -- the bucket of the swap
+    abbrev b : ℕ
+    b = y .report .bucket
+
     abbrev past : List Entry
-    past = x ∷ onto before []
+    past = x ∷ onto (at .before) []
 
     good-then : Good workers n opened then past (at-x .many + 0)
     good-then = act-good workers n opened _ _ _ _ (at-x .act) _ _ (walk-good workers n opened (at-x .first) [] 0 good)
@@ -100,51 +113,84 @@ module _ (workers n opened : ℕ) {s u : View} {es : List Entry} {k : ℕ} (walk
     still = by (back n y (at-y .first) (swap-aware (at-y .act) swap) (at-y .act .bucket))
       where
         by : HasMoment between y ⊎ Still n then between now y → Still n then between now y
-        by (inl has) = absurd (moment .latest (some-as _ _ _ has (has .holds .0 .own, has .holds .0 .sees)))
+        by (inl has) = absurd (at .is .latest (some-as _ _ _ has (has .holds .0 .own, has .holds .0 .sees)))
         by (inr still) = still
 
     recorded : worker then (y .worker) ≡ at-x .new
     recorded =
-        ap (worker then) (sym (moment .own)) ∙ new-record (at-x .here) then (x .worker) (at-x .new) (at-x .act .records) (at-x .act .within)
+        ap (worker then) (sym (at .is .own)) ∙ new-record (at-x .here) then (x .worker) (at-x .new) (at-x .act .records) (at-x .act .within)
 
-    -- and that is the mark word as it stood at the moment
-    saw : w .word ≡ then .marks (y .bucket)
+    -- and that is the mark word as it stood at the moment, which is in the same bucket
+    saw : In b x × (w .word ≡ then .marks b)
     saw = by (act-minds (at-x .act))
       where
         by :
-            Minds (at-x .here .marks (x .bucket)) (worker (at-x .here) (x .worker)) (at-x .act .effect) (at-x .new)
-            → w .word ≡ then .marks (y .bucket)
+            Minds (at-x .here .marks (x .report .bucket)) (worker (at-x .here) (x .worker)) (at-x .act .effect) (at-x .new)
+            → In b x × (w .word ≡ then .marks b)
         by (renews how key word) =
-            let kept : home n (at-x .new) ≡ y .bucket = ap (home n) (sym recorded) ∙ sym (still .home-same) ∙ sym (at-y .act .bucket) in
-            let homes : x .bucket ≡ y .bucket = at-x .act .bucket ∙ ap (λ (l : ℕ). bucketOf l n) (sym key) ∙ kept in
-            still .word ∙ ap (λ (v : Worker). v .word) recorded ∙ word ∙ sym (at-x .act .here) ∙ ap (then .marks) homes
-        by (keeps quiet call word from to) = absurd (sees-not (at-x .act) (rw quiet) from (moment .sees))
+            let kept : home n (at-x .new) ≡ b = ap (home n) (sym recorded) ∙ sym (still .home-same) ∙ sym (at-y .act .bucket) in
+            let homes : In b x = at-x .act .bucket ∙ ap (λ (l : ℕ). bucketOf l n) (sym key) ∙ kept in
+            (homes, still .word ∙ ap (λ (v : Worker). v .word) recorded ∙ word ∙ sym (at-x .act .here) ∙ ap (then .marks) homes)
+        by (keeps quiet call word from to) = absurd (sees-not (at-x .act) (rw quiet) from (at .is .sees))
         by (forgets unaware) = absurd (unaware (subst Aware recorded (still .aware)))
 
     -- so the swap expects it
-    expected : expects w ≡ then .marks (y .bucket)
+    expected : expects w ≡ then .marks b
     expected =
-        act-expects n now y (at-y .new) (at-y .there) (good-now .kept) (at-y .act) (swapper (at-y .act) swap) ∙ saw
+        act-expects n now y (at-y .new) (at-y .there) (good-now .kept) (at-y .act) (swapper (at-y .act) swap) ∙ saw .1
+
+    -- the moment of the swap reports as after what the swap expects
+    moment-left : x .report .after ≡ expects w
+    moment-left = at-x .act .after ∙ ap (then .marks) (saw .0) ∙ sym expected
+
+    -- a won swap finds what its moment left, and a lost one does not
+    pub won-found : Wins y → y .report .before ≡ x .report .after
+    won-found won = at-y .act .before ∙ sym (at-y .act .went .won won .1) ∙ sym moment-left
+
+    pub lost-found : Loses y → y .report .before ≡ x .report .after → ⊥
+    lost-found lost same = at-y .act .went .lost lost .1 (sym moment-left ∙ sym same ∙ at-y .act .before)
+
+    -- Between the moment of a lost swap and the swap the mark word was changed, since it is not what the swap expects; the last change is
+    -- no turn of its worker, whose moment is the last of those, and left the word that the swap finds.
+    pub lost-by : Loses y → Cut (MadeLose y) between
+    lost-by lost = by (last-or-none (ChangesIn b) (changes-test b) between)
+      where
+        by : Cut (λ e newer. ChangesIn b e × None (ChangesIn b) newer) between ⊎ None (ChangesIn b) between → Cut (MadeLose y) between
+        by (inl last) =
+            let e = last .entry in
+            let there = last .holds .0 in
+            let c = cut-at n e (last .newer) (last .older) (at-y .first) (last .cut) in
+            record {
+              older = last .older;
+              entry = e;
+              newer = last .newer;
+              cut = last .cut;
+              holds =
+                  record {
+                    another = ((λ own. at .is .latest (some-as _ _ _ last (own, inr (there .1))), there .0), there .1);
+                    differs = act-changes (c .act) (walk-good workers n opened (c .first) past _ good-then .kept) (there .1);
+                    left =
+                        c .act .after
+                        ∙ ap (c .there .marks) (there .0)
+                        ∙ sym (walk-quiet b (c .rest) (last .holds .1))
+                        ∙ sym (at-y .act .before);
+                    latest = none-differs b (c .rest) (last .holds .1);
+                  };
+            }
+        by (inr none) = absurd (at-y .act .went .lost lost .1 (expected ∙ sym (walk-quiet b (at-y .first) none)))
 
     -- between the moment of a lost swap and the swap another worker changed the mark word
     pub lost-since : Loses y → Some (ChangedByAnother y) between
-    lost-since lost = by (some-or-none (ChangesIn (y .bucket)) (changes-test (y .bucket)) between)
-      where
-        by : Some (ChangesIn (y .bucket)) between ⊎ None (ChangesIn (y .bucket)) between → Some (ChangedByAnother y) between
-        by (inl some) =
-            let another : Own y (some .entry) → ⊥ = λ own. moment .latest (some-as _ _ _ some (own, inr (some .holds .1))) in
-            some-as _ _ _ some ((another, some .holds .0), some .holds .1)
-        by (inr none) = absurd (at-y .act .went .lost lost .1 (expected ∙ sym (walk-quiet (y .bucket) (at-y .first) none)))
+    lost-since lost = let c = lost-by lost in some-as _ _ _ c (c .holds .another)
 
     -- what is counted between them in the bucket
     abbrev count : (Entry → ℕ) → ℕ
-    count f = total (inBucket (y .bucket) f) between
+    count f = total (inBucket b f) between
 
     -- A swap that wins finds the mark word as it stood at the moment. The version in it says that the commits since are a multiple of
     -- 2^32; each has a ticket of its own, so that there are fewer: none. With no commit, as many valid slots as then say no close either.
     none-between : 0 < n → Wins y → (count commitOf ≡ 0) × (count closeOf ≡ 0)
     none-between some won =
-        let b = y .bucket in
         let under : b < n = rw (at-y .act .bucket) (mod-lt (w .key) some) in
         let same : then .marks b ≡ now .marks b = sym expected ∙ at-y .act .went .won won .1 in
         let told = good-then .tells b under in
@@ -160,8 +206,8 @@ module _ (workers n opened : ℕ) {s u : View} {es : List Entry} {k : ℕ} (walk
     counts f some one none =
         omega (
           arith,
-          some-counts (inBucket (y .bucket) f) (CommittedOrClosedByAnother y) between some,
-          in-bucket (y .bucket) f (some .entry) (some .holds .0 .1),
+          some-counts (inBucket b f) (CommittedOrClosedByAnother y) between some,
+          in-bucket b f (some .entry) (some .holds .0 .1),
         )
 
     -- between the moment of a won swap and the swap no other worker made a commit or a close in the bucket

@@ -23,7 +23,7 @@ use Rattle.engine.specs.declared.Floor.{Floor}
 use Rattle.engine.specs.declared.Started.{Started}
 use Rattle.engine.specs.Board.{emptyBucket}
 use Rattle.engine.specs.Refusals.{wrongSizes, openNumber, startNumber, eachNumber, turnNumber, runNumber}
-use Rattle.engine.specs.Calls.{Ran, planned, startCall, turned, turnCall, noTurns, standing, blank, recordIn, goOn, runFrom, runCall}
+use Rattle.engine.specs.Calls.{Ran, planned, startCall, turned, turnCall, unbegun, blank, recordIn, goOn, runFrom, runCall}
 use Rattle.engine.proofs.Sizes.{right-listed}
 use Rattle.engine.proofs.Buckets.{length-opened}
 use Rattle.engine.proofs.Turns.{own}
@@ -148,7 +148,7 @@ module _ (s : State) (ok : Unbroken s) (turns : List ℕ) where
   abbrev number : ℕ
   number = runNumber (s .floor) (s .board) (length (s .records)) turns
 
-  turns-done : Passes (s .floor) (runFrom (s .floor) turns (standing (s .board) (s .records) noTurns 0))
+  turns-done : Passes (s .floor) (runFrom (s .floor) turns (unbegun (s .board) (s .records) 0))
   turns-done = turns-pass (s .floor) turns _ (record { left = ok; stop = inl refl })
 
   -- a run keeps a state unbroken, refused as a whole or not

@@ -31,10 +31,10 @@ module _ (v n : ℕ) (s : View) (e : Entry) (w : Worker) (t : View) (kept : Kept
   abbrev effect : Effect
   effect = act .effect
 
-  here-tells : Tells v (e .bucket) past (s .marks (e .bucket)) → Tells v (e .bucket) (e ∷ past) (t .marks (e .bucket))
+  here-tells : Tells v (e .report .bucket) past (s .marks (e .report .bucket)) → Tells v (e .report .bucket) (e ∷ past) (t .marks (e .report .bucket))
   unfolding total
   here-tells old =
-      let b = e .bucket in
+      let b = e .report .bucket in
       let m = s .marks b in
       let commits : inBucket b commitOf e ≡ committed effect = in-bucket b commitOf e refl ∙ act .commits in
       let closes : inBucket b closeOf e ≡ closed effect = in-bucket b closeOf e refl ∙ act .closes in
@@ -45,7 +45,7 @@ module _ (v n : ℕ) (s : View) (e : Entry) (w : Worker) (t : View) (kept : Kept
         valid = omega (arith, valid, commits, closes, old .valid);
       })
 
-  there-tells : (b : ℕ) → (e .bucket ≡ b → ⊥) → Tells v b past (s .marks b) → Tells v b (e ∷ past) (t .marks b)
+  there-tells : (b : ℕ) → (e .report .bucket ≡ b → ⊥) → Tells v b past (s .marks b) → Tells v b (e ∷ past) (t .marks b)
   unfolding total
   there-tells b other old =
       let commits = out-of-bucket b commitOf e other in
@@ -55,8 +55,8 @@ module _ (v n : ℕ) (s : View) (e : Entry) (w : Worker) (t : View) (kept : Kept
 
   -- a turn keeps it so
   pub act-tells : (b : ℕ) → Tells v b past (s .marks b) → Tells v b (e ∷ past) (t .marks b)
-  act-tells b = by (ℕ-discrete (e .bucket) b)
+  act-tells b = by (ℕ-discrete (e .report .bucket) b)
     where
-      by : Dec (e .bucket ≡ b) → Tells v b past (s .marks b) → Tells v b (e ∷ past) (t .marks b)
+      by : Dec (e .report .bucket ≡ b) → Tells v b past (s .marks b) → Tells v b (e ∷ past) (t .marks b)
       by (yes is) = subst (λ (b : ℕ). Tells v b past (s .marks b) → Tells v b (e ∷ past) (t .marks b)) is here-tells
       by (no other) = there-tells b other

@@ -71,16 +71,19 @@ pub record Acts (n : ℕ) (s : View) (e : Entry) (v : Worker) (t : View) : Type 
   pub within : e .worker < length (s .records)
   pub records : t .records ≡ set (s .records) (e .worker) v
   pub last : t .last ≡ s .last
-  pub bucket : e .bucket ≡ bucketOf (worker s (e .worker) .key) n
+  pub bucket : e .report .bucket ≡ bucketOf (worker s (e .worker) .key) n
   pub was : e .was ≡ worker s (e .worker)
+  -- the mark word that it found there, and the one that it left
+  pub before : e .report .before ≡ s .marks (e .report .bucket)
+  pub after : e .report .after ≡ t .marks (e .report .bucket)
   -- what the entry counts for is what the effect does
   pub commits : commitOf e ≡ committed effect
   pub closes : closeOf e ≡ closed effect
   pub changes : changeOf e ≡ changed effect
-  pub here : t .marks (e .bucket) ≡ effectOn effect (s .marks (e .bucket))
-  pub there : (c : ℕ) → (c ≡ e .bucket → ⊥) → t .marks c ≡ s .marks c
-  pub moves : Moves (s .marks (e .bucket)) (worker s (e .worker)) effect v
-  pub went : Went (s .marks (e .bucket)) (worker s (e .worker)) v (e .report .action)
+  pub here : t .marks (e .report .bucket) ≡ effectOn effect (s .marks (e .report .bucket))
+  pub there : (c : ℕ) → (c ≡ e .report .bucket → ⊥) → t .marks c ≡ s .marks c
+  pub moves : Moves (s .marks (e .report .bucket)) (worker s (e .worker)) effect v
+  pub went : Went (s .marks (e .report .bucket)) (worker s (e .worker)) v (e .report .action)
   pub aims : Aimed (worker s (e .worker)) → Aimed v
   pub idles : Idles (e .report .progress) v
 
@@ -94,10 +97,10 @@ pub data Walk (n : ℕ) : View → List Entry → ℕ → View → Type 0 where
 
 -- a turn that changed nothing leaves them all
 pub quiet-marks : {n : ℕ} {s : View} {e : Entry} {v : Worker} {t : View} → Acts n s e v t → changeOf e ≡ 0 → (c : ℕ) → t .marks c ≡ s .marks c
-quiet-marks {n} {s} {e} {v} {t} act quiet c = by (ℕ-discrete c (e .bucket))
+quiet-marks {n} {s} {e} {v} {t} act quiet c = by (ℕ-discrete c (e .report .bucket))
   where
-    by : Dec (c ≡ e .bucket) → t .marks c ≡ s .marks c
-    by (yes is) = rw is (act .here ∙ quiet-effect (act .effect) (s .marks (e .bucket)) (sym (act .changes) ∙ quiet))
+    by : Dec (c ≡ e .report .bucket) → t .marks c ≡ s .marks c
+    by (yes is) = rw is (act .here ∙ quiet-effect (act .effect) (s .marks (e .report .bucket)) (sym (act .changes) ∙ quiet))
     by (no other) = act .there c other
 
 -- ---- the record of each worker then

@@ -27,7 +27,7 @@ entry-turns s i e =
 
 module _ {s t : State} {e : Entry} (act : Turns s e t) where
   abbrev bucket : List ℕ
-  bucket = bucketAt (s .board) (e .bucket)
+  bucket = bucketAt (s .board) (e .report .bucket)
 
   -- a turn at place 7 is one that stores
   stores-at : e .was .place ≡ ticketPlace → Stores e
@@ -35,24 +35,24 @@ module _ {s t : State} {e : Entry} (act : Turns s e t) where
 
   -- a turn that stores no ticket changes no value
   quiet-spares : (e .was .place ≡ ticketPlace → ⊥) → (b p : ℕ) → valueAt t b p ≡ valueAt s b p
-  quiet-spares elsewhere b p = by (ℕ-discrete b (e .bucket))
+  quiet-spares elsewhere b p = by (ℕ-discrete b (e .report .bucket))
     where
-      by : Dec (b ≡ e .bucket) → valueAt t b p ≡ valueAt s b p
+      by : Dec (b ≡ e .report .bucket) → valueAt t b p ≡ valueAt s b p
       by (no another) = other-cells act b _ another
       by (yes is) = rw is (own-cells act _ ∙ turn-values bucket (e .was) (act .ok) elsewhere _ (omega arith))
 
   -- one that stores its ticket changes no value but that of the slot that it holds
-  store-spares : e .was .place ≡ ticketPlace → (b p : ℕ) → (b ≡ e .bucket → p ≡ e .was .held → ⊥) → valueAt t b p ≡ valueAt s b p
-  store-spares place b p other = by (ℕ-discrete b (e .bucket))
+  store-spares : e .was .place ≡ ticketPlace → (b p : ℕ) → (b ≡ e .report .bucket → p ≡ e .was .held → ⊥) → valueAt t b p ≡ valueAt s b p
+  store-spares place b p other = by (ℕ-discrete b (e .report .bucket))
     where
-      by : Dec (b ≡ e .bucket) → valueAt t b p ≡ valueAt s b p
+      by : Dec (b ≡ e .report .bucket) → valueAt t b p ≡ valueAt s b p
       by (no another) = other-cells act b _ another
       by (yes is) =
           let another : p ≡ e .was .held → ⊥ = other is in
           rw is (own-cells act _ ∙ turn-other-cells bucket (e .was) (act .ok) place _ (omega arith))
 
   -- a turn changes no value but that of the slot that it stores its ticket to
-  pub turn-spares : (b p : ℕ) → (Stores e → b ≡ e .bucket → p ≡ e .was .held → ⊥) → valueAt t b p ≡ valueAt s b p
+  pub turn-spares : (b p : ℕ) → (Stores e → b ≡ e .report .bucket → p ≡ e .was .held → ⊥) → valueAt t b p ≡ valueAt s b p
   turn-spares b p other = by (ℕ-discrete (e .was .place) ticketPlace)
     where
       by : Dec (e .was .place ≡ ticketPlace) → valueAt t b p ≡ valueAt s b p
@@ -60,15 +60,15 @@ module _ {s t : State} {e : Entry} (act : Turns s e t) where
       by (yes place) = store-spares place b p (other (stores-at place))
 
   -- a turn that stores its ticket makes it the value of the slot that it holds
-  pub store-writes : Stores e → valueAt t (e .bucket) (e .was .held) ≡ e .was .ticket
+  pub store-writes : Stores e → valueAt t (e .report .bucket) (e .was .held) ≡ e .was .ticket
   store-writes stores = own-cells act (valueCell (e .was .held)) ∙ turn-ticket bucket (e .was) (act .ok) (stores .0)
 
   -- a value stays, or is the ticket that the turn stores
   turn-written : (b p : ℕ) → (valueAt t b p ≡ valueAt s b p) ⊎ StoresTicket (valueAt t b p) e
-  turn-written b p = by (ℕ-discrete b (e .bucket)) (ℕ-discrete (e .was .place) ticketPlace) (ℕ-discrete p (e .was .held))
+  turn-written b p = by (ℕ-discrete b (e .report .bucket)) (ℕ-discrete (e .was .place) ticketPlace) (ℕ-discrete p (e .was .held))
     where
       by :
-          Dec (b ≡ e .bucket)
+          Dec (b ≡ e .report .bucket)
           → Dec (e .was .place ≡ ticketPlace)
           → Dec (p ≡ e .was .held)
           → (valueAt t b p ≡ valueAt s b p) ⊎ StoresTicket (valueAt t b p) e

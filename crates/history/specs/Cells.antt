@@ -14,9 +14,13 @@ use Rattle.history.specs.Values.{valueAt}
 abbrev pub cellsAt : State → ℕ → ℕ → ℕ
 cellsAt s b k = cell (bucketAt (s .board) b) k
 
+-- the mark word of a bucket
+abbrev pub markWordAt : State → ℕ → ℕ
+markWordAt s b = cellsAt s b markCell
+
 -- the mark of a slot of a bucket
 abbrev pub markAt : State → ℕ → ℕ → ℕ
-markAt s b p = markOf (cellsAt s b markCell) p
+markAt s b p = markOf (markWordAt s b) p
 
 -- the key of a slot of a bucket; its value is `valueAt`
 abbrev pub keyAt : State → ℕ → ℕ → ℕ

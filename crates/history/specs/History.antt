@@ -14,7 +14,6 @@ use Rattle.engine.specs.declared.Floor.{Floor}
 use Rattle.engine.specs.declared.Plan.{Plan}
 use Rattle.engine.specs.declared.Seat.{Seat}
 use Rattle.engine.specs.declared.Started.{Started}
-use Rattle.engine.specs.Board.{bucketOf}
 use Rattle.engine.specs.Refusals.{openNumber, runNumber}
 use Rattle.engine.specs.Calls.{Opened, Ran, planned, openCall, lookCall, insertCall, removeCall, turnCall, runCall, recordIn, seatIn}
 use Rattle.history.specs.Trace.{Entry}
@@ -133,8 +132,7 @@ after s count = s
 -- the entry of a turn that is done; one that is refused has none
 abbrev pub entryOf : State → ℕ → Answer → List Entry
 entryOf s i (Refused number) = []
-entryOf s i (Done report) =
-    record { worker = i; bucket = bucketOf (recordOf s i .key) (s .floor .buckets); was = recordOf s i; report = report } ∷ []
+entryOf s i (Done report) = record { worker = i; was = recordOf s i; report = report } ∷ []
 
 -- the entry of one turn
 abbrev pub turnEntry : State → ℕ → List Entry

@@ -51,7 +51,7 @@ module _ (words : ℕ → List ℕ) (w : Worker) where
 
   -- whether the call goes on after a turn, or has ended
   abbrev pub progressAt : ℕ → Progress
-  progressAt k = Places.turn (words k) (recordAt k) .stepped .report .progress
+  progressAt k = Places.turn (words k) (recordAt k) .stepped .progress
 
 -- §15.1: so many turns are those of a look: the last one ends it, and none before does
 pub record LookTakes (lot : ℕ) (words : ℕ → List ℕ) : Type 0 where

@@ -2,6 +2,7 @@ pub mod History
 pub mod Trace
 pub mod Counts
 pub mod Moment
+pub mod Reports
 pub mod Numbers
 pub mod Demand
 pub mod Values

@@ -3,7 +3,7 @@
 use mathlib.Core.List.{List, _∷_, _++_}
 use mathlib.Core.Logic.{_⊎_}
 use mathlib.Core.Path.{_≡_}
-use Rattle.history.specs.Trace.{Entry, Changes, ReadsWhole, Commits, Closes, Continues, Ends, By, Cut, None}
+use Rattle.history.specs.Trace.{Entry, Changes, ReadsWhole, Commits, Closes, Continues, Ends, By, In, Cut, None}
 
 -- an entry of the same worker
 abbrev pub Own : Entry → Entry → Type 0
@@ -11,7 +11,7 @@ Own y e = By (y .worker) e
 
 -- an entry of another worker, in the same bucket
 abbrev pub AnothersIn : Entry → Entry → Type 0
-AnothersIn y e = (Own y e → ⊥) × (e .bucket ≡ y .bucket)
+AnothersIn y e = (Own y e → ⊥) × In (y .report .bucket) e
 
 -- a turn that read the mark word whole or changed it
 abbrev pub Sees : Entry → Type 0
@@ -25,7 +25,7 @@ pub record IsMoment (x : Entry) (between : List Entry) (y : Entry) : Type 0 wher
 
 -- x, between and y belong to one call of their worker, in one bucket: x does not end its call, and neither does a turn of that worker between
 pub record OneCall (x : Entry) (between : List Entry) (y : Entry) : Type 0 where
-  pub bucket : x .bucket ≡ y .bucket
+  pub bucket : In (y .report .bucket) x
   pub first : Continues x
   pub rest : None (λ e. Own y e × Ends e) between
 

@@ -13,6 +13,7 @@ use Rattle.history.specs.History.{State, Opening, Call, opened, openedAs
 use Rattle.history.specs.Demand.{DemandThree}
 use Rattle.history.specs.Values.{NoValueComesBack}
 use Rattle.history.specs.Lots.{CountTells}
+use Rattle.history.specs.Reports.{ReportsChain}
 use Rattle.history.specs.Cells.{Cells}
 use Rattle.history.specs.HowLong.{HowLong}
 use Rattle.history.specs.Unbroken.{Unbroken}
@@ -99,6 +100,8 @@ pub record AnyOrder (o : Opening) (asked : List Asked) : Type 0 where
   pub values : NoValueComesBack (historyOf o asked .opening) (historyOf o asked .calls)
   -- a count tells the commits less the closes of its turns
   pub counted : CountTells (historyOf o asked .opening) (historyOf o asked .calls)
+  -- reports chain, and tell who made a swap lose
+  pub reports : ReportsChain (historyOf o asked .opening) (historyOf o asked .calls)
   -- calls take as long as is said
   pub lasting : HowLong (historyOf o asked .opening) (historyOf o asked .calls)
   -- held slots are filled, and valid ones have a lot of their bucket and a ticket

@@ -10,10 +10,9 @@ use Rattle.turn.specs.declared.Action.the-variants.{Store, Won, Lost}
 use Rattle.turn.specs.declared.Progress.the-variants.{GoesOn}
 use Rattle.turn.specs.declared.Report.{Report}
 
--- a turn that was done: the worker, the bucket of its lot, the worker's record as it was before the turn, and the turn's report
+-- a turn that was done: the worker, its record as it was before the turn, and the turn's report, which has the bucket
 pub record Entry : Type 0 where
   pub worker : ℕ
-  pub bucket : ℕ
   pub was : Worker
   pub report : Report
 
@@ -66,6 +65,10 @@ Ends e = Continues e → ⊥
 -- a turn of worker i
 abbrev pub By : ℕ → Entry → Type 0
 By i e = e .worker ≡ i
+
+-- a turn in bucket b
+abbrev pub In : ℕ → Entry → Type 0
+In b e = e .report .bucket ≡ b
 
 -- ---- entries of a trace
 

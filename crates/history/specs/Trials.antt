@@ -1,4 +1,4 @@
--- Trials P6 and P11, and the longest calls, as the calls of a history (decision 78).
+-- Trials P6 and P11, and the longest calls, as the calls of a history (decision 78); and the mark words that P6 reports.
 use Prim.Native.Nat.{ℕ}
 use mathlib.Core.List.{List, [], _∷_, _++_}
 use lib.ListN.{replicate}
@@ -39,6 +39,17 @@ sleeper =
     ∷ turnsOf 0 11
     ∷ turnsOf 1 5
     ∷ []
+
+-- §4.12, §10.6: the mark words that the sleeper's 34 turns find and leave, by their reports: six of them are changes
+abbrev pub sleeperWords : List (ℕ × ℕ)
+sleeperWords =
+    replicate 7 (0, 0)
+    ++ ((0, 8589934592) ∷ replicate 2 (8589934592, 8589934592))
+    ++ ((8589934592, 4294967297) ∷ replicate 6 (4294967297, 4294967297))
+    ++ ((4294967297, 1) ∷ replicate 7 (1, 1))
+    ++ ((1, 8589934593) ∷ replicate 2 (8589934593, 8589934593))
+    ++ ((8589934593, 4294967298) ∷ replicate 4 (4294967298, 4294967298))
+    ++ ((4294967298, 2) ∷ [])
 
 -- §10.11: after A has read the mark word B gives its slot back, and C claims the same slot
 abbrev pub wordRepeats : List Call

@@ -73,13 +73,13 @@ pub record NoValueComesBack (o : Opening) (calls : List Call) : Type 0 where
       (i : ℕ) (e : Entry)
       → turnEntry (state o calls) i ≡ e ∷ []
       → Stores e
-      → valueAt (after (state o calls) (turn i)) (e .bucket) (e .was .held) ≡ e .was .ticket
+      → valueAt (after (state o calls) (turn i)) (e .report .bucket) (e .was .held) ≡ e .was .ticket
   -- a turn that comes next leaves every other value as it was, and all of them where it does not store
   pub spares :
       (i : ℕ) (e : Entry)
       → turnEntry (state o calls) i ≡ e ∷ []
       → (b p : ℕ)
-      → (Stores e → b ≡ e .bucket → p ≡ e .was .held → ⊥)
+      → (Stores e → b ≡ e .report .bucket → p ≡ e .was .held → ⊥)
       → valueAt (after (state o calls) (turn i)) b p ≡ valueAt (state o calls) b p
   -- a value is 0, as the opening left it, or a ticket that a turn stored
   pub comes-from :

@@ -5,15 +5,15 @@ use mathlib.Core.List.{List, [], _∷_, _++_}
 use native.Mathlib.Omega.{arith}
 use lib.ListN.{length, set, length-set, length-append}
 use Rattle.turn.specs.declared.Worker.{Worker}
+use Rattle.turn.specs.declared.Report.{Report}
 use Rattle.turn.specs.Turn.{Answer, Refused, Done, Turned, After, after, numberOf}
 use Rattle.turn.specs.Places.{Step}
 use Rattle.turn.specs.Places as Places
 use Rattle.engine.specs.declared.Floor.{Floor}
 use Rattle.engine.specs.declared.Totals.{Totals}
 use Rattle.engine.specs.declared.Seat.{Seat}
-use Rattle.engine.specs.Board.{bucketOf}
 use Rattle.engine.specs.Refusals.{bucketFor, turnNumber}
-use Rattle.engine.specs.Calls.{recordIn, tallied, turnDone, turned, turnCall}
+use Rattle.engine.specs.Calls.{recordIn, tallied, reportOn, turnDone, turned, turnCall}
 use Rattle.engine.proofs.Keeps.{turn-accepted}
 use Rattle.engine.proofs.Numbers.{turn-number}
 use Rattle.engine.proofs.Tallies.{losses-lost, losses-other, changes-change, changes-other}
@@ -83,13 +83,17 @@ module _ (o : Opening) (done : List Call) (p : Point) (so : Stands o done p) (i 
   abbrev did : After Turned
   did = turnDone f (p .left .words) w step
 
+  -- what the turn reports
+  abbrev report : Report
+  report = reportOn f (p .left .words) w step
+
   -- the totals with it
   abbrev t : Totals
-  t = tallied (w .place) (step .stepped .report) (d .totals)
+  t = tallied (w .place) report (d .totals)
 
   desk-turn :
       turnAtDesk i (p .left)
-      ≡ outcome (endedLine (t .turns) i (w .kind) (step .stepped .report .progress))
+      ≡ outcome (endedLine (t .turns) i (w .kind) (step .stepped .progress))
       (after (did .words) (record { floor = f; records = set (d .records) i (step .stepped .worker); totals = t })) 0
   unfolding turnAtDesk
   desk-turn =
@@ -101,7 +105,7 @@ module _ (o : Opening) (done : List Call) (p : Point) (so : Stands o done p) (i 
 
   -- its entry, for a worker with this record before it
   abbrev entryFor : Worker → Entry
-  entryFor v = record { worker = i; bucket = bucketOf (v .key) (s .floor .buckets); was = v; report = step .stepped .report }
+  entryFor v = record { worker = i; was = v; report = report }
 
   abbrev e : Entry
   e = entryFor w
@@ -156,8 +160,8 @@ module _ (o : Opening) (done : List Call) (p : Point) (so : Stands o done p) (i 
               totals = rw desk-turn totals-are;
               lines =
                   rw (desk-turn, trace-is)
-                  (ap (λ (l : List ℕ). p .lines ++ l) (line-is (t .turns) e (step .stepped .report .progress))
-                  ∙ ap₂ (λ (l : List ℕ) (n : ℕ). l ++ lineFor (n + 1) e (step .stepped .report .progress)) (so .stands .lines) turns-are
+                  (ap (λ (l : List ℕ). p .lines ++ l) (line-is (t .turns) e (step .stepped .progress))
+                  ∙ ap₂ (λ (l : List ℕ) (n : ℕ). l ++ lineFor (n + 1) e (step .stepped .progress)) (so .stands .lines) turns-are
                   ∙ sym (end-lines-then 1 (trace o done) e));
             };
         long = rw desk-turn (length-set (d .records) i (step .stepped .worker) ∙ so .long);

@@ -15,13 +15,14 @@ use Rattle.turn.specs.declared.Report.{Report}
 use Rattle.turn.specs.declared.Tried.{Tried}
 use Rattle.turn.specs.Worker.{idle, isIdle}
 use Rattle.turn.specs.Places.{turn}
-use Rattle.turn.specs.Turn.{Answer, Refused, Done, Turned, After, after, numberOf, doing, answerOf, answered}
+use Rattle.turn.specs.Turn.{Done, Turned, After, after, numberOf, doing, answerOf, answered}
+use Rattle.turn.proofs.Numbers.{reportIn}
 use Rattle.turn.proofs.Kept.{Idles, turn-idles, is-idle}
 use Rattle.engine.specs.declared.Floor.{Floor}
 use Rattle.engine.specs.declared.Seat.{Seat}
 use Rattle.engine.specs.declared.Totals.{Totals}
 use Rattle.engine.specs.Refusals.{bucketFor, turnNumber}
-use Rattle.engine.specs.Calls.{blank, recordIn, tallied, turnDone, turned, tryCall, turnCall}
+use Rattle.engine.specs.Calls.{blank, recordIn, tallied, reportOn, turnDone, turned, tryCall, turnCall}
 use Rattle.engine.proofs.Keeps.{turn-accepted}
 use Rattle.engine.proofs.Numbers.{TurnDone, turn-done}
 use Rattle.engine.proofs.Turns.{answering, tried-is-turned}
@@ -48,30 +49,27 @@ pub record Taken (i : ℕ) (w v : Worker) (p : Progress) : Type 0 where
   pub was-busy : isIdle w ≡ false
   pub idles : Idles p v
 
-reportIn : Report → Answer → Report
-reportIn r (Refused number) = r
-reportIn r (Done report) = report
-
 -- that is so where the engine answers with a report
 pub taken :
     (board : List ℕ) (s : Seat) (w : Worker) (later : List ℕ) (r : Turned) (report : Report)
     → TurnDone board s w later r
     → r .answer ≡ Done report
     → Taken (s .worker) w (r .worker) (report .progress)
-unfolding turnCall turned reportIn
+unfolding turnCall turned
 taken board s w later r report done told =
     let f = s .floor in
     let number = turnNumber f board (s .listed) (s .worker) w in
     let none : number ≡ 0 = sym (done .number) ∙ ap numberOf told in
     let ok = turn-accepted f board (s .listed) (s .worker) w none in
-    let step = turn (bucketFor f board (w .key)) w in
+    let bucket = bucketFor f board (w .key) in
+    let step = turn bucket w in
     let whole : after later r ≡ turnDone f board w step = rw (eq-eqb number 0 none) at (done .whole) in
-    let handed : r ≡ doing step = ap (λ (x : After Turned). x .handed) whole in
-    let same : report ≡ step .stepped .report = ap (reportIn report) (sym told ∙ ap (λ (x : Turned). x .answer) handed) in
+    let handed : r ≡ doing step (reportOn f board w step) = ap (λ (x : After Turned). x .handed) whole in
+    let same : report ≡ reportOn f board w step = ap (reportIn report) (sym told ∙ ap (λ (x : Turned). x .answer) handed) in
     record {
       known = omega (arith, ok .0 .workers, ok .2);
       was-busy = ok .1 .busy;
-      idles = rw (same, handed) (turn-idles (bucketFor f board (w .key)) w (ok .1));
+      idles = rw (same, handed) (turn-idles bucket w (ok .1));
     }
 
 -- a number that has no record has the blank

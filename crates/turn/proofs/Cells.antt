@@ -1,5 +1,5 @@
 -- §4.1, §11.2: one memory action. A turn keeps the bucket's length, goes by one word and changes no other, makes of that word what it and
--- the worker's record say, and changes none where it reports a read or a lost swap. Assumes nothing.
+-- the worker's record say, and changes none where it comes out as a read or a lost swap. Assumes nothing.
 use Prim.Native.Nat.{ℕ, zero, suc, _<_}
 use mathlib.Core.Bool.{Bool, true, false, cond}
 use mathlib.Core.Path.{_≡_, refl, sym, ap, _∙_}
@@ -72,7 +72,7 @@ module _ (b c : List ℕ) (w : Worker) where
       same-outcome true = refl
       same-outcome false = refl
 
-  -- the record and the report that a turn leaves depend on the touched cell alone
+  -- the record that a turn leaves, and how it comes out, depend on the touched cell alone
   pub turn-one-reading : cell b (touched w) ≡ cell c (touched w) → turn b w .stepped ≡ turn c w .stepped
   unfolding turn
   turn-one-reading = does-one-reading (getD rows (w .place) stays)
@@ -124,11 +124,11 @@ each-at P [] e d pd n = pd
 each-at P (r ∷ rs) e d pd zero = e .0
 each-at P (r ∷ rs) e d pd (suc n) = each-at P rs (e .1) d pd n
 
--- an action that changes a word reports a store or a won swap
+-- an action that changes a word comes out as a store or a won swap
 abbrev Loud : Act → Type 0
 Loud (read at next) = Unit {0}
-Loud (store at what next) = (w : Worker) → isQuiet (next w .report .action) ≡ false
-Loud (swap expected new won) = (w : Worker) → isQuiet (won w .report .action) ≡ false
+Loud (store at what next) = (w : Worker) → isQuiet (next w .action) ≡ false
+Loud (swap expected new won) = (w : Worker) → isQuiet (won w .action) ≡ false
 
 rows-loud : Each Loud rows
 rows-loud =
@@ -136,14 +136,14 @@ rows-loud =
     (tt, (tt, (tt, (tt, (tt, (tt, (loud, (loud, (loud, (loud, (loud, (tt, (tt, (loud, tt))))))))))))))
 
 module _ (b : List ℕ) (w : Worker) where
-  does-quiet : (a : Act) → Loud a → isQuiet (does a b w .stepped .report .action) ≡ true → does a b w .bucket ≡ b
+  does-quiet : (a : Act) → Loud a → isQuiet (does a b w .stepped .action) ≡ true → does a b w .bucket ≡ b
   does-quiet (read at next) loud = λ quiet. refl
   does-quiet (store at what next) loud = not-both _ (loud w)
   does-quiet (swap expected new won) loud =
-      by-swap (λ (s : Step). isQuiet (s .stepped .report .action) ≡ true → s .bucket ≡ b) (wins b (expected w)) _ _
+      by-swap (λ (s : Step). isQuiet (s .stepped .action) ≡ true → s .bucket ≡ b) (wins b (expected w)) _ _
       (not-both _ (loud w)) (λ quiet. refl)
 
-  -- a turn that reports a read or a lost swap leaves the bucket as it was
-  pub turn-quiet : isQuiet (turn b w .stepped .report .action) ≡ true → turn b w .bucket ≡ b
+  -- a turn that comes out as a read or a lost swap leaves the bucket as it was
+  pub turn-quiet : isQuiet (turn b w .stepped .action) ≡ true → turn b w .bucket ≡ b
   unfolding turn
   turn-quiet = does-quiet (getD rows (w .place) stays) (each-at Loud rows rows-loud stays tt (w .place))

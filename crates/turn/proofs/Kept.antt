@@ -145,7 +145,7 @@ module _ (b : List ℕ) (w : Worker) (ok : Accepted b w) where
       let spare = turn-beside b w ok spareCell (omega arith) (λ place. let held = filled b w ok (omega arith) (omega arith) .1 in omega arith) in
       record { eight = turn-long b w ∙ ok .whole .eight; formed = lands-formed (turn-lands b w ok); spare = spare ∙ ok .whole .spare }
 
-  lands-idles : {n : ℕ} {x : Stepped} → Lands m n w x → Idles (x .report .progress) (x .worker)
+  lands-idles : {n : ℕ} {x : Stepped} → Lands m n w x → Idles (x .progress) (x .worker)
   lands-idles (reads p same place other fits away aims) = busy _ (omega (arith, works-within _ _ _ fits))
   lands-idles (goes a full p s v same swap none from fits away slot aims) = busy _ (omega (arith, works-within _ _ _ fits))
   lands-idles (loses same swapper missed fits) = busy _ (omega arith)
@@ -156,7 +156,7 @@ module _ (b : List ℕ) (w : Worker) (ok : Accepted b w) where
   lands-idles (closes left kind place held is) = refl
 
   -- the record that a turn leaves is idle just where it ends its call
-  pub turn-idles : Idles (turn b w .stepped .report .progress) (turn b w .stepped .worker)
+  pub turn-idles : Idles (turn b w .stepped .progress) (turn b w .stepped .worker)
   turn-idles = lands-idles (turn-lands b w ok)
 
   lands-kept : {n : ℕ} {x : Stepped} → Lands m n w x → Sound (x .worker) ⊎ (x .worker ≡ idle)

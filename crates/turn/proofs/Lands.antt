@@ -28,7 +28,7 @@ elsewhere w other = record { at-claim = λ is. absurd (other .0 is); at-close = 
 abbrev pub moved : ℕ → ℕ → ℕ → Worker → Worker
 moved p s v w = record { kind = w .kind; place = p; key = w .key; ticket = w .ticket; slot = s; word = w .word; held = w .held; seen = v }
 
--- a swap reports that it won or that it lost
+-- a swap comes out as won or as lost
 abbrev pub isSwap : Action → Bool
 isSwap Read = false
 isSwap Store = false

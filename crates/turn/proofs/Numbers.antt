@@ -1,4 +1,4 @@
--- The number that an answer tells is the one that the call's tests come to. Assumes nothing.
+-- What an answer tells: its report, and its number, which is the one that the call's tests come to. Assumes nothing.
 use Prim.Native.Nat.{ℕ}
 use mathlib.Core.Bool.{cond}
 use mathlib.Core.Path.{_≡_, refl, sym, _∙_}
@@ -7,7 +7,13 @@ use lib.Dec.{eqb}
 use borrow.Author.Tests.{eqb-true}
 use Rattle.mark.proofs.Choices.{by-cases}
 use Rattle.turn.specs.declared.Worker.{Worker}
-use Rattle.turn.specs.Turn.{Turned, After, after, numberOf, refusing}
+use Rattle.turn.specs.declared.Report.{Report}
+use Rattle.turn.specs.Turn.{Answer, Refused, Done, Turned, After, after, numberOf, refusing}
+
+-- the report in an answer, and this one where it has none
+abbrev pub reportIn : Report → Answer → Report
+reportIn r (Refused number) = r
+reportIn r (Done report) = report
 
 -- the number in what a turn left
 abbrev pub numberIn : After Turned → ℕ

@@ -51,8 +51,8 @@ module _ (b : List ℕ) (w : Worker) (ok : Accepted b w) where
     unfolding turn
     stored = rw place
 
-    -- a turn at place 7 reports a store
-    pub turn-stores : turn b w .stepped .report .action ≡ Store
+    -- a turn at place 7 comes out as a store
+    pub turn-stores : turn b w .stepped .action ≡ Store
     unfolding turn
     turn-stores = rw place
 

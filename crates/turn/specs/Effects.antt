@@ -1,4 +1,4 @@
--- What a turn does to the mark word of its bucket, told from the place and the report alone.
+-- What a turn does to the mark word of its bucket, told from the worker's record and the action alone.
 use Prim.Native.Nat.{ℕ}
 use mathlib.Core.Bool.{cond}
 use lib.Dec.{eqb}

@@ -13,15 +13,15 @@ use Rattle.turn.specs.declared.Stepped.{Stepped}
 use Rattle.turn.specs.Worker.{lookKind, removeKind, noSlot, idle, goTo, atSlot, saw, readWord, claimed}
 use Rattle.turn.specs.Bucket.{markCell, keyCell, valueCell, cell}
 
--- ---- the report: the action, whether the call goes on, and whether this was a full round
+-- ---- how a step comes out: the action, whether the call goes on, and whether this was a full round
 
 -- §4.8: the call goes on
 abbrev pub goesOn : Action → Bool → Worker → Stepped
-goesOn action full w = record { worker = w; report = record { action = action; progress = GoesOn; full = full } }
+goesOn action full w = record { worker = w; action = action; progress = GoesOn; full = full }
 
 -- §4.3, §4.8: the call has ended with an answer, and its worker is idle
 abbrev pub ends : Action → ℕ → Stepped
-ends action answer = record { worker = idle; report = record { action = action; progress = Ended answer; full = false } }
+ends action answer = record { worker = idle; action = action; progress = Ended answer; full = false }
 
 -- ---- what follows a search
 
@@ -86,12 +86,12 @@ pub data Act : Type 0 where
   -- the mark word becomes `new` if it is `expected`, and `won` follows; else it is lost
   swap : (Worker → ℕ) → (Worker → ℕ) → (Worker → Stepped) → Act
 
--- what a step leaves: the bucket, and the worker with its report
+-- what a step leaves: the bucket, and the worker with how the step came out
 pub record Step : Type 0 where
   pub bucket : List ℕ
   pub stepped : Stepped
 
--- this bucket, and this worker with its report
+-- this bucket, and this worker
 abbrev pub leaves : List ℕ → Stepped → Step
 leaves b s = record { bucket = b; stepped = s }
 

@@ -11,7 +11,7 @@ use Rattle.turn.specs.declared.Stepped.{Stepped}
 use Rattle.turn.specs.declared.Said.{Said}
 use Rattle.turn.specs.declared.Tried.{Tried}
 use Rattle.turn.specs.Worker.{isIdle, broken}
-use Rattle.turn.specs.Bucket.{brokenBucket}
+use Rattle.turn.specs.Bucket.{markCell, cell, brokenBucket}
 use Rattle.turn.specs.Places.{Step, turn}
 
 -- §6.7: 7 for a broken bucket, or 0
@@ -50,28 +50,39 @@ after words x = record { words = words; handed = x }
 abbrev pub refusing : ℕ → Worker → Turned
 refusing number w = record { worker = w; answer = Refused number }
 
--- a turn that is done leaves what the table says, and reports it
-abbrev pub doing : Step → Turned
-doing s = record { worker = s .stepped .worker; answer = Done (s .stepped .report) }
+-- §4.8, §4.12: how a step came out, in the bucket of this number, with the mark words that it found and left there
+abbrev pub reported : Stepped → ℕ → ℕ → ℕ → Report
+reported s bucket found left =
+    record { action = s .action; progress = s .progress; full = s .full; bucket = bucket; before = found; after = left }
+
+-- §4.12: the report of a step on the words of the bucket of this number
+abbrev pub reportOf : ℕ → List ℕ → Step → Report
+reportOf bucket words s = reported (s .stepped) bucket (cell words markCell) (cell (s .bucket) markCell)
+
+-- a turn that is done leaves what the table says, and has this report
+abbrev pub doing : Step → Report → Turned
+doing s report = record { worker = s .stepped .worker; answer = Done report }
 
 -- ---- as the code has it: a number beside the report
 
--- what stands for the report of a turn that was refused
-abbrev pub unreported : Report
-unreported = record { progress = GoesOn; action = Read; full = false }
+-- §4.13: the report of none, where no turn was done
+abbrev pub noReport : Report
+noReport = record { action = Read; progress = GoesOn; full = false; bucket = 0; before = 0; after = 0 }
 
 -- a turn that is refused, with its number
 abbrev pub refused : ℕ → Worker → Tried
-refused number w = record { worker = w; said = record { report = unreported; refusal = number; place = w .place } }
+refused number w = record { worker = w; said = record { report = noReport; refusal = number; place = w .place } }
 
--- a turn that is done at a place
-abbrev pub done : Stepped → ℕ → Tried
-done s place = record { worker = s .worker; said = record { report = s .report; refusal = 0; place = place } }
+-- a turn that is done at a place, with the record that it leaves and its report
+abbrev pub done : Worker → Report → ℕ → Tried
+done w report place = record { worker = w; said = record { report = report; refusal = 0; place = place } }
 
--- one turn, refused or done
-unfoldable pub tryTurn : List ℕ → Worker → After Tried
-tryTurn b w =
-    cond (eqb (turnRefusal b w) 0) (after (turn b w .bucket) (done (turn b w .stepped) (w .place))) (after b (refused (turnRefusal b w) w))
+-- one turn on the words of the bucket of this number, refused or done
+unfoldable pub tryTurn : ℕ → List ℕ → Worker → After Tried
+tryTurn bucket words w =
+    cond (eqb (turnRefusal words w) 0)
+    (after (turn words w .bucket) (done (turn words w .stepped .worker) (reportOf bucket words (turn words w)) (w .place)))
+    (after words (refused (turnRefusal words w) w))
 
 -- the answer in what a turn says
 abbrev pub answerOf : Said → Answer

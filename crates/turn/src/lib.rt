@@ -1,6 +1,6 @@
 // One worker and one bucket: the worker's record, the eight words of its lot's bucket, and what one turn does to them.
 ghost use mathlib.Core.Path.{_≡_};
-ghost use Rattle.turn.specs.Turn.{bucketRefusal, turnRefusal, after, refused, done, tryTurn};
+ghost use Rattle.turn.specs.Turn.{bucketRefusal, turnRefusal, after, noReport, refused, reported, done, tryTurn};
 
 pub mod refusal; // the numbers
 pub mod record; // idle, started and broken records
@@ -34,20 +34,26 @@ pub enum Progress {
     Ended(u64),
 }
 
-// §4.8, §14.3: what a turn reports.
+// §4.8, §4.12, §14.3: what a turn reports: how it came out, and of its bucket the number, and the mark word before the turn and after it. The
+// two words stand apart, as they are written one by one and would be copied as a pair.
 pub struct Report {
+    pub bucket: usize,
+    pub before: u64,
+    pub progress: Progress,
+    pub after: u64,
+    pub action: Action,
+    pub full: bool,
+}
+
+// What a step leaves of the worker, and how it came out.
+pub struct Stepped {
+    pub worker: Worker,
     pub progress: Progress,
     pub action: Action,
     pub full: bool,
 }
 
-// What a step leaves of the worker, and its report.
-pub struct Stepped {
-    pub worker: Worker,
-    pub report: Report,
-}
-
-// What a turn says: its report, of nothing where it was refused; the number of refusal, or 0; and the place that it was tried at.
+// What a turn says: its report, the report of none where it was refused; the number of refusal, or 0; and the place that it was tried at.
 pub struct Said {
     pub report: Report,
     pub refusal: u8,
@@ -83,18 +89,44 @@ fn bucket_refusal(lent: &[u64]) -> u8
     0
 }
 
-// §7.1: a turn that is refused: it leaves the record, and reports nothing.
+// §4.13: the report of none, where no turn was done. Reports are made here and in `reported`, and nowhere else.
+pub fn no_report() -> Report
+    ensures { λ r. ⌜ r ≡ noReport ⌝ }
+{
+    Report {
+        bucket: 0,
+        before: 0,
+        progress: Progress::GoesOn,
+        after: 0,
+        action: Action::Read,
+        full: false,
+    }
+}
+
+// §4.8, §4.12: the report of a step in the bucket of this number, with the mark words that it found and left there.
+fn reported(stepped: Stepped, bucket: usize, before: u64, after: u64) -> Report
+    ensures { λ r. ⌜ r ≡ reported stepped bucket before after ⌝ }
+{
+    let progress = stepped.progress;
+    let action = stepped.action;
+    Report {
+        bucket,
+        before,
+        progress,
+        after,
+        action,
+        full: stepped.full,
+    }
+}
+
+// §7.1: a turn that is refused: it leaves the record, and has the report of none.
 pub fn refused(number: u8, w: Worker) -> Tried
     ensures { λ r. ⌜ r ≡ refused number w ⌝ }
 {
     Tried {
         worker: w,
         said: Said {
-            report: Report {
-                progress: Progress::GoesOn,
-                action: Action::Read,
-                full: false,
-            },
+            report: no_report(),
             refusal: number,
             place: w.place,
         },
@@ -102,11 +134,9 @@ pub fn refused(number: u8, w: Worker) -> Tried
 }
 
 // A turn that is done at a place.
-fn done(stepped: Stepped, place: u8) -> Tried
-    ensures { λ r. ⌜ r ≡ done stepped place ⌝ }
+fn done(worker: Worker, report: Report, place: u8) -> Tried
+    ensures { λ r. ⌜ r ≡ done worker report place ⌝ }
 {
-    let worker = stepped.worker;
-    let report = stepped.report;
     Tried {
         worker,
         said: Said {
@@ -117,13 +147,16 @@ fn done(stepped: Stepped, place: u8) -> Tried
     }
 }
 
-// §4.1: one turn of a worker on the bucket of its lot.
-pub fn try_turn(lent: &mut [u64], w: Worker) -> Tried
-    ensures { λ r. ⌜ after (now (lent .exit)) r ≡ tryTurn (now (lent .entry)) w ⌝ }
+// §4.1: one turn of a worker on the bucket of its lot, which has this number.
+pub fn try_turn(lent: &mut [u64], bucket: usize, w: Worker) -> Tried
+    ensures { λ r. ⌜ after (now (lent .exit)) r ≡ tryTurn bucket (now (lent .entry)) w ⌝ }
 {
     let refusal = turn_refusal(lent, w);
     if refusal == 0 {
-        return done(place::step(lent, w), w.place);
+        let before = lent[0];
+        let stepped = place::step(lent, w);
+        let report = reported(stepped, bucket, before, lent[0]);
+        return done(stepped.worker, report, w.place);
     }
     refused(refusal, w)
 }

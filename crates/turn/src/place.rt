@@ -8,7 +8,6 @@ ghost use Rattle.turn.specs.Ready.{Ready};
 ghost use Rattle.turn.specs.Places.{goesOn, ends, lookFound, findSlot, lookEmpty, nextSlot, after1, after3, after4, after5, nextKey, after11, leaves, swapped, loses, turn};
 use crate::Action;
 use crate::Progress;
-use crate::Report;
 use crate::Stepped;
 use crate::Worker;
 use crate::record;
@@ -19,11 +18,9 @@ fn goes_on(action: Action, full: bool, worker: Worker) -> Stepped
 {
     Stepped {
         worker,
-        report: Report {
-            action,
-            progress: Progress::GoesOn,
-            full,
-        },
+        progress: Progress::GoesOn,
+        action,
+        full,
     }
 }
 
@@ -33,11 +30,9 @@ fn ends(action: Action, answer: u64) -> Stepped
 {
     Stepped {
         worker: record::idle(),
-        report: Report {
-            action,
-            progress: Progress::Ended(answer),
-            full: false,
-        },
+        progress: Progress::Ended(answer),
+        action,
+        full: false,
     }
 }
 

@@ -1,9 +1,10 @@
 //! A running call: the code of a figure as a future that is polled once a turn.
 
 use crate::figures::{clht_get, clht_put, clht_remove};
-use crate::frame::{Done, Frame};
+use crate::frame::Frame;
 use crate::memory::Bucket;
 use crate::record::{Record, INSERT, LOOK, REMOVE};
+use crate::report::Report;
 use std::future::Future;
 use std::pin::Pin;
 use std::rc::Rc;
@@ -38,7 +39,7 @@ impl Call {
         let code = code(frame.clone(), kind);
         let mut call = Call { frame, code };
         assert!(call.poll().is_pending());
-        assert_eq!(call.frame.take_done(), Done::default());
+        assert_eq!(call.frame.take_done(), (0, Report::none()));
         call
     }
 
@@ -53,15 +54,22 @@ impl Call {
         self.frame.record()
     }
 
-    /// One turn: what was done, and the answer where the call ended.
-    pub fn turn(&mut self) -> (Done, Option<u64>) {
-        let answer = match self.poll() {
+    /// One turn, which is one memory action (§4.1), and its report.
+    pub fn turn(&mut self) -> Report {
+        let before = self.frame.bucket.snapshot();
+        let ended = match self.poll() {
             Poll::Ready(answer) => Some(answer),
             Poll::Pending => None,
         };
-        let done = self.frame.take_done();
-        assert_eq!(done.actions, 1);
-        (done, answer)
+        let (actions, report) = self.frame.take_done();
+        assert_eq!(actions, 1);
+        Report {
+            ended,
+            bucket: self.frame.bucket.number as u64,
+            before,
+            after: self.frame.bucket.snapshot(),
+            ..report
+        }
     }
 }
 

@@ -6,6 +6,7 @@ mod loose;
 mod places;
 mod ranges;
 mod refusals;
+mod reports;
 
 use crate::case::{with_length, Case};
 use crate::random::Random;
@@ -37,6 +38,7 @@ fn round(seed: u64) -> Bodies {
         places::make(&mut bodies);
     }
     ranges::make(&mut bodies);
+    reports::make(&mut bodies);
     loose::make(&mut bodies);
     bodies
 }

@@ -5,6 +5,7 @@ mod places;
 mod points;
 mod ranges;
 mod refusals;
+mod reports;
 
 use crate::case::Case;
 use crate::outcome::Outcome;
@@ -35,6 +36,7 @@ impl Coverage {
         broken::see(case, outcome, &mut met);
         places::see(case, outcome, &mut met);
         ranges::see(case, outcome, &mut met);
+        reports::see(case, outcome, &mut met);
         met.sort();
         met.dedup();
         for point in met {

@@ -1,9 +1,9 @@
 //! The desk: floor, board and list, and every call with its refusals in their order.
 
 use crate::call::Call;
-use crate::frame::Action;
 use crate::memory::{Board, Bucket, BUCKET_WORDS};
 use crate::record::{Record, INSERT};
+use crate::report::{Ran, Report};
 use crate::word::{Snapshot, MAP_INVLD, MAP_VALID};
 
 /// A number of refusal.
@@ -29,33 +29,6 @@ pub struct Floor {
 pub struct List {
     pub length: u64,
     pub records: Vec<Record>,
-}
-
-/// What a turn reports.
-#[derive(Clone, Copy, Debug, PartialEq, Eq)]
-pub struct Report {
-    pub action: Action,
-    pub ended: Option<u64>,
-    pub change: bool,
-    pub full_round: bool,
-}
-
-/// What a run reports; the totals of a sheet are the same counts.
-#[derive(Clone, Copy, Debug, Default, PartialEq, Eq)]
-pub struct Counts {
-    pub turns: u64,
-    pub changes: u64,
-    pub lost: u64,
-    pub full_rounds: u64,
-}
-
-impl Counts {
-    pub fn add(&mut self, report: &Report) {
-        self.turns += 1;
-        self.changes += u64::from(report.change);
-        self.lost += u64::from(report.action == Action::Lost);
-        self.full_rounds += u64::from(report.full_round);
-    }
 }
 
 /// Whether a call's code lives from its start to its end, or is made anew from the record at each turn.
@@ -163,18 +136,13 @@ impl Desk {
             Some(call) => call,
             None => Call::resume(&record, bucket),
         };
-        let (done, ended) = call.turn();
-        self.list.records[at] = match ended {
+        let report = call.turn();
+        self.list.records[at] = match report.ended {
             Some(_) => Record::idle(),
             None => call.record(),
         };
-        self.keep(at, ended.is_none().then_some(call));
-        Ok(Report {
-            action: done.action.expect("a turn does one memory action"),
-            ended,
-            change: done.change,
-            full_round: done.full_round,
-        })
+        self.keep(at, report.ended.is_none().then_some(call));
+        Ok(report)
     }
 
     /// §4.10; refused as §7.2 has it. `told` hears of each turn done, with the record before it.
@@ -182,25 +150,25 @@ impl Desk {
         &mut self,
         turns: &[u8],
         told: &mut dyn FnMut(u8, &Record, &Report),
-    ) -> (Refusal, Counts) {
-        let mut counts = Counts::default();
+    ) -> (Refusal, Ran) {
+        let mut ran = Ran::none();
         if let Err(refusal) = self.measure(self.floor.workers, self.floor.buckets, true) {
-            return (refusal, counts);
+            return (refusal, ran);
         }
         if turns.len() > MOST_TURNS {
-            return (9, counts);
+            return (9, ran);
         }
         for &worker in turns {
             let before = self.list.records.get(worker as usize).copied();
             match self.turn(u64::from(worker)) {
-                Err(refusal) => return (refusal, counts),
+                Err(refusal) => return (refusal, ran),
                 Ok(report) => {
-                    counts.add(&report);
+                    ran.add(&report);
                     told(worker, &before.expect("a worker of the list"), &report);
                 }
             }
         }
-        (0, counts)
+        (0, ran)
     }
 
     /// §2.8: where the lot's bucket starts on the board, and its words.

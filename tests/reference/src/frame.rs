@@ -2,30 +2,12 @@
 
 use crate::memory::Bucket;
 use crate::record::{Record, NONE};
+use crate::report::{Action, Report};
 use std::cell::Cell;
 use std::future::Future;
 use std::ops::RangeInclusive;
 use std::pin::Pin;
 use std::task::{Context, Poll};
-
-/// §4.8: what a turn did.
-#[derive(Clone, Copy, Debug, PartialEq, Eq)]
-pub enum Action {
-    Read,
-    Store,
-    Won,
-    Lost,
-}
-
-/// What the memory actions of one turn came to; exactly one of them is done in a turn.
-#[derive(Clone, Copy, Debug, Default, PartialEq, Eq)]
-pub struct Done {
-    pub actions: u32,
-    pub action: Option<Action>,
-    /// §4.9.
-    pub change: bool,
-    pub full_round: bool,
-}
 
 /// The variables of `clht_bucket_search`, `clht_put` and `clht_remove`, by their names in the figures.
 pub struct Frame {
@@ -46,7 +28,10 @@ pub struct Frame {
     place: Cell<u8>,
     /// The label up to which the code is brought without memory actions, where it is made from a record.
     bound: Cell<Option<u8>>,
-    done: Cell<Done>,
+    /// How many memory actions were done since somebody asked.
+    actions: Cell<u32>,
+    /// The report of the turn as far as the code itself can tell it.
+    report: Cell<Report>,
 }
 
 impl Frame {
@@ -67,7 +52,8 @@ impl Frame {
             val: Cell::new(record.seen),
             place: Cell::new(0),
             bound: Cell::new(bound.then_some(record.place)),
-            done: Cell::new(Done::default()),
+            actions: Cell::new(0),
+            report: Cell::new(Report::none()),
         }
     }
 
@@ -102,14 +88,15 @@ impl Frame {
 
     /// §4.7.
     pub fn note_full_round(&self) {
-        let mut done = self.done.get();
-        done.full_round = true;
-        self.done.set(done);
+        self.report.set(Report {
+            full_round: true,
+            ..self.report.get()
+        });
     }
 
-    /// Hands over what was done since the last time.
-    pub fn take_done(&self) -> Done {
-        self.done.take()
+    /// Hands over how many memory actions were done since the last time, and what they came to.
+    pub fn take_done(&self) -> (u32, Report) {
+        (self.actions.take(), self.report.replace(Report::none()))
     }
 
     /// Stands before the memory action with this label until the next turn.
@@ -121,11 +108,12 @@ impl Frame {
     }
 
     fn note(&self, action: Action, change: bool) {
-        let mut done = self.done.get();
-        done.actions += 1;
-        done.action = Some(action);
-        done.change = change;
-        self.done.set(done);
+        self.actions.set(self.actions.get() + 1);
+        self.report.set(Report {
+            action,
+            change,
+            ..self.report.get()
+        });
     }
 
     pub async fn load_snapshot(&self, place: u8) -> u64 {

@@ -8,6 +8,7 @@ pub mod figures;
 pub mod frame;
 pub mod memory;
 pub mod record;
+pub mod report;
 pub mod sheet;
 pub mod word;
 

@@ -36,11 +36,10 @@ impl Board {
         self.0[at].set(word);
     }
 
-    /// §2.3: where a bucket begins.
     pub fn bucket(&self, number: usize) -> Bucket {
         Bucket {
             board: self.clone(),
-            start: number * BUCKET_WORDS,
+            number,
         }
     }
 }
@@ -49,12 +48,13 @@ impl Board {
 #[derive(Clone)]
 pub struct Bucket {
     board: Board,
-    start: usize,
+    pub number: usize,
 }
 
 impl Bucket {
+    /// §2.3: where a bucket begins, and so many words on.
     fn cell(&self, at: usize) -> &Cell<u64> {
-        &self.board.0[self.start + at]
+        &self.board.0[self.number * BUCKET_WORDS + at]
     }
 
     pub fn snapshot(&self) -> u64 {

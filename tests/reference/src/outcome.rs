@@ -1,9 +1,9 @@
 //! What a case comes to, and its line.
 
 use crate::case::{self, fields, groups, Case};
-use crate::desk::{Counts, Desk, Floor, Manner, Refusal, Report};
-use crate::frame::Action;
+use crate::desk::{Desk, Floor, Manner, Refusal};
 use crate::record::Record;
+use crate::report::{Action, Counts, Ran, Report};
 use std::fmt::Write;
 
 #[derive(Clone, Debug, PartialEq, Eq)]
@@ -11,7 +11,7 @@ pub enum Answer {
     /// An opening or a start.
     Alone(Result<(), Refusal>),
     Turn(Result<Report, Refusal>),
-    Run(Refusal, Counts),
+    Run(Refusal, Ran),
     Show(Result<(usize, Vec<u64>), Refusal>),
     Count(Result<u64, Refusal>),
 }
@@ -71,10 +71,10 @@ fn call(case: &Case, desk: &mut Desk, told: &mut Vec<Told>) -> Answer {
         }
         case::TURN => Answer::Turn(desk.turn(worker)),
         case::RUN => {
-            let (number, counts) = desk.run(&case.turns, &mut |worker, record, report| {
+            let (number, ran) = desk.run(&case.turns, &mut |worker, record, report| {
                 told.push((worker, *record, *report));
             });
-            Answer::Run(number, counts)
+            Answer::Run(number, ran)
         }
         case::SHOW => Answer::Show(desk.show(lot)),
         _ => Answer::Count(desk.count()),
@@ -114,17 +114,18 @@ fn push_answer(line: &mut String, answer: &Answer) {
     match answer {
         Answer::Alone(_) => push_numbers(line, &[number]),
         Answer::Turn(turn) => {
-            let [action, ended, answer, full] = turn.map_or([0; 4], |report| turn_items(&report));
-            push_numbers(line, &[number, action, ended, answer, full]);
+            push_numbers(line, &[number]);
+            push_numbers(line, &turn.map_or([0; 7], |report| report_items(&report)));
         }
-        Answer::Run(_, counts) => {
+        Answer::Run(_, ran) => {
             let Counts {
                 turns,
                 changes,
                 lost,
                 full_rounds,
-            } = *counts;
+            } = ran.counts;
             push_numbers(line, &[number, turns, changes, lost, full_rounds]);
+            push_numbers(line, &report_items(&ran.last));
         }
         Answer::Show(show) => {
             let (start, part) = show.clone().unwrap_or_default();
@@ -136,8 +137,8 @@ fn push_answer(line: &mut String, answer: &Answer) {
     }
 }
 
-/// A turn that was done, in the numbers of its line.
-fn turn_items(report: &Report) -> [u64; 4] {
+/// A report in the numbers of a line: of a turn that was done, or what a run keeps.
+fn report_items(report: &Report) -> [u64; 7] {
     let action = match report.action {
         Action::Read => 1,
         Action::Store => 2,
@@ -149,6 +150,9 @@ fn turn_items(report: &Report) -> [u64; 4] {
         report.ended.is_some().into(),
         report.ended.unwrap_or(0),
         report.full_round.into(),
+        report.bucket,
+        report.before,
+        report.after,
     ]
 }
 

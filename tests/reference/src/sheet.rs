@@ -1,7 +1,8 @@
 //! The sheet and its listing.
 
-use crate::desk::{Counts, Desk, Manner, Refusal};
+use crate::desk::{Desk, Manner, Refusal};
 use crate::record::{INSERT, LOOK, REMOVE};
+use crate::report::Counts;
 use std::fmt::Write;
 
 /// §6.9: the most bytes of a sheet.

@@ -2,7 +2,7 @@
 
 use reference::case::{pieces, with_length, Case};
 use reference::desk::{Floor, List};
-use reference::outcome::{line, lines, outcome};
+use reference::outcome::{line, lines, outcome, Answer};
 use reference::record::{Record, INSERT};
 use reference::{cases, store};
 
@@ -126,7 +126,24 @@ fn lines_of_the_format() {
     };
     assert_eq!(
         line_of(&turn),
-        "turn 0 3 1 1 0 | 1 1 1 | 100000001 7 0*2 1 0*3 | 0.0.0.0.0.0.3.0\n"
+        "turn 0 3 1 1 0 0 200000000 100000001 | 1 1 1 | 100000001 7 0*2 1 0*3 | 0.0.0.0.0.0.3.0\n"
+    );
+    let twice = Case {
+        call: 5,
+        turns: vec![0; 2],
+        ..turn.clone()
+    };
+    assert_eq!(
+        line_of(&twice),
+        "run 6 1 1 0 0 3 1 1 0 0 200000000 100000001 | 1 1 1 | 100000001 7 0*2 1 0*3 | 0.0.0.0.0.0.3.0\n"
+    );
+    assert_eq!(
+        line_of(&opened(4, 1)),
+        "turn 6 0 0 0 0 0 0 0 | 1 1 0 | 0*8 | 0.0.0.0.0.0.3.0\n"
+    );
+    assert_eq!(
+        line_of(&opened(5, 1)),
+        "run 0 0 0 0 0 1 0 0 0 0 0 0 | 1 1 0 | 0*8 | 0.0.0.0.0.0.3.0\n"
     );
     assert_eq!(
         line_of(&opened(6, 1)),
@@ -147,13 +164,43 @@ fn a_refused_call_changes_nothing() {
     }
 }
 
+/// Of every turn, and of the last of every run: the bucket is the lot's, and the words are those of the board on either side of the turn.
+#[test]
+fn a_report_tells_the_words_of_the_board() {
+    let mut reports = 0;
+    for piece in cases::stored() {
+        let case = Case::read(&piece[2..]);
+        let came = outcome(&case);
+        let (lot, report, board) = match (&came.answer, came.told.last()) {
+            (Answer::Turn(Ok(report)), _) => {
+                let record = case.list.records[case.worker as usize];
+                (record.key, *report, case.board)
+            }
+            (Answer::Run(_, ran), Some((_, record, _))) => {
+                let mut shorter = case.clone();
+                shorter.turns.truncate(came.told.len() - 1);
+                (record.key, ran.last, outcome(&shorter).board)
+            }
+            _ => continue,
+        };
+        let bucket = lot % case.floor.buckets;
+        let mark_word = 8 * bucket as usize;
+        assert_eq!(report.bucket, bucket);
+        assert_eq!(report.before, board[mark_word]);
+        assert_eq!(report.after, came.board[mark_word]);
+        reports += 1;
+    }
+    assert!(reports > 3_000);
+}
+
 #[test]
 fn the_stored_cases_meet_every_point() {
     let stored = store::make();
     assert_eq!(stored.coverage.unmet(), Vec::<String>::new());
     assert_eq!(lines(&stored.stream), stored.lines);
     assert!(stored.lines.lines().count() >= 5_000);
-    assert!(stored.stream.len() + stored.lines.len() < 1 << 20);
+    // a mebibyte and a quarter
+    assert!(stored.stream.len() + stored.lines.len() < 5 << 18);
 }
 
 #[test]

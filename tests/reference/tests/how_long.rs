@@ -2,9 +2,10 @@
 //! means that from the start of the call to its end nobody else has a turn; the others stand wherever they were stopped, and may even start
 //! calls. On code that lives and on code made anew from the records.
 
-use reference::desk::{Desk, Manner, Report};
+use reference::desk::{Desk, Manner};
 use reference::random::Random;
 use reference::record::{INSERT, LOOK, REMOVE};
+use reference::report::Report;
 use reference::word::{Snapshot, MAP_INVLD, MAP_VALID};
 use std::collections::BTreeSet;
 

@@ -1,8 +1,8 @@
 //! The trials (§10) with their numbers, on code that lives and on code made anew from the records.
 
-use reference::desk::{Counts, Desk, Floor, List, Manner, Report};
-use reference::frame::Action;
+use reference::desk::{Desk, Floor, List, Manner};
 use reference::record::{Record, INSERT, LOOK, REMOVE};
+use reference::report::{Action, Counts, Report};
 use reference::sheet::listing;
 use reference::word::Snapshot;
 
@@ -279,14 +279,27 @@ fn sizes_that_are_refused() {
 
 #[test]
 fn a_turn_reports_a_read_and_that_it_goes_on() {
-    on_both(1, 0, |mut desk| {
+    on_both(1, 5, |mut desk| {
         desk.start(LOOK, 0, 7, 0).unwrap();
         let expected = Report {
             action: Action::Read,
             ended: None,
-            change: false,
             full_round: false,
+            change: false,
+            bucket: 0,
+            before: 5,
+            after: 5,
         };
         assert_eq!(desk.turn(0), Ok(expected));
+        // §4.13: a run without a turn reports a read too, and no word
+        let (number, ran) = desk.run(&[], &mut |_, _, _| ());
+        assert_eq!((number, ran.counts), (0, Counts::default()));
+        let nothing = Report {
+            before: 0,
+            after: 0,
+            ..expected
+        };
+        assert_eq!(ran.last, nothing);
+        assert_eq!(Report::none(), nothing);
     });
 }

@@ -22,7 +22,7 @@ use sound.WpLaws.{fmOf}
 use denote.RattleType.{owns}
 use denote.Laws.{Is}
 use denote.Plain.{uint-vals, uint-tells}
-use denote.Builtin.{u8, u64, usize}
+use denote.Builtin.{u8, u64}
 use denote.Ref.{at-last}
 use denote.Slice.{MutSlice, ShrSlice, slice-vals, mut-slice-tells, shr-slice-tells, shr-slice-copy}
 use denote.Signature.{plain}
@@ -217,7 +217,7 @@ run-meets 𝓤 H A W mem run 𝓣 starts whoses turnings goings tolds = walk-clo
     (λ left. exec ! (𝓣 .C) (𝓣 .Λ) En (seq (call told-def.name (copy (place 8 []) ∷ []) (place 0 [])) return) (atRet En Post) $
     nothing ! $ arg ! R.the-row (LL.makes R.the-type R′.the-plain 𝓤 H A) r _ (t .is) $ nothing ! $ join ! $
     cited-call ! fm told.ended (told.clauses 𝓤 H A mem run) tolds ((tt, tt, tt, (r, tt), (run-vals r, tt)), tt) (id⊢ 𝓤 _) (‵ ftrue) refl
-    (LL.val N.the-type N′.the-laws) (LL.tells N.the-type N′.the-laws) (λ o _. o ≡ runTold r) (λ o _. refl)
+    (LL.val N.the-type N′.the-laws) (LL.tells N.the-type N′.the-laws) (λ o _. o ≡ runTold (r .last) (r .totals) (r .stop)) (λ o _. refl)
     (and-then ! (var ! (v 1 8) refl) (no-more !)) (λ o _ o-is e₄.
     gets ! (v 2 0) refl (LL.lawful N.the-type N′.the-laws 𝓤 H A W .typed o _ o-is .0) $ drop ! $ drop ! $
     returns ! (look ! (v 0 0) refl) $

@@ -2,11 +2,10 @@
 
 use super::refusals::record_of;
 use crate::case::{self, Case, NAMES};
-use crate::desk::Report;
-use crate::frame::Action;
 use crate::memory::BUCKET_WORDS;
 use crate::outcome::{Answer, Outcome};
 use crate::record::{Record, INSERT, LOOK, NONE};
+use crate::report::{Action, Report};
 use crate::word::{snap_set_map, Snapshot, MAP_INSRT};
 
 /// A turn that was done.
@@ -183,10 +182,7 @@ fn see_swap(turn: &Turn, met: &mut Vec<String>) {
         _ => (before.slot, "slot"),
     };
     let mark = Snapshot::of(word).map[usize::from(at)];
-    let expected = match place {
-        9 => snap_set_map(word, at, MAP_INSRT),
-        _ => word,
-    };
+    let expected = expected(before);
     let won = report.action == Action::Won;
     let came = if won { "won" } else { "lost" };
     met.push(format!("at {place} {which} {at} mark {mark} {came}"));
@@ -217,6 +213,14 @@ fn see_swap(turn: &Turn, met: &mut Vec<String>) {
             "at 9 version 4294967295 to 0 held {at}, other marks {}{}",
             others[0], others[1]
         ));
+    }
+}
+
+/// The word that a swap expects.
+pub fn expected(record: &Record) -> u64 {
+    match record.place {
+        9 => snap_set_map(record.word, record.held, MAP_INSRT),
+        _ => record.word,
     }
 }
 

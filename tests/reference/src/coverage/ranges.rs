@@ -2,10 +2,11 @@
 
 use super::refusals::{length_of_list, sizes, worker_of};
 use crate::case::{self, Case, NAMES};
-use crate::desk::{Counts, MOST_TURNS};
+use crate::desk::MOST_TURNS;
 use crate::memory::BUCKET_WORDS;
 use crate::outcome::{Answer, Outcome};
 use crate::record::{INSERT, LOOK};
+use crate::report::Counts;
 use crate::word::{Snapshot, MAP_INSRT, MAP_INVLD, MAP_VALID};
 
 /// The mark word that an insert leaves after eight turns on an opened board.
@@ -25,8 +26,8 @@ pub fn see(case: &Case, outcome: &Outcome, met: &mut Vec<String>) {
         9 => met.push(format!("run: 9 of {} turns", case.turns.len())),
         _ => (),
     }
-    if let Answer::Run(number, counts) = &outcome.answer {
-        see_run(case, outcome, *number, counts, met);
+    if let Answer::Run(number, ran) = &outcome.answer {
+        see_run(case, outcome, *number, &ran.counts, met);
         see_trials(case, outcome, *number, met);
     }
 }

@@ -10,8 +10,8 @@ pub fn see(case: &Case, outcome: &Outcome, met: &mut Vec<String>) {
     let name = NAMES[case.call as usize];
     let number = outcome.answer.number();
     match &outcome.answer {
-        Answer::Run(2 | 3 | 6 | 7, counts) => {
-            let when = if counts.turns == 0 {
+        Answer::Run(2 | 3 | 6 | 7, ran) => {
+            let when = if ran.counts.turns == 0 {
                 "at once"
             } else {
                 "later"
@@ -22,7 +22,7 @@ pub fn see(case: &Case, outcome: &Outcome, met: &mut Vec<String>) {
     }
     for other in applying(case) {
         // a run's later turns are no part of the order
-        let at_once = !matches!(&outcome.answer, Answer::Run(_, counts) if counts.turns > 0);
+        let at_once = !matches!(&outcome.answer, Answer::Run(_, ran) if ran.counts.turns > 0);
         if number != 0 && number != other && at_once {
             met.push(format!("{name}: {number} before {other}"));
         }

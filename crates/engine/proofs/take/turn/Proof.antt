@@ -8,12 +8,12 @@ turn-spec =
     tie.close
     (tie.spec
     (λ c κs. search needs)
-    (λ c. search needs) (λ c. search needs) (λ c. search needs) (λ c. search needs) (λ c. search needs)
+    (λ c. search needs) (λ c. search needs) (λ c. search needs) (λ c. search needs) (λ c. search needs) (λ c. search needs)
     (λ c κs. search needs)
     (λ c. search needs)
     (λ c.
     let t = c .before .before in
     let f = t .before .before in
     let a = f .before .before .args in
-    turn-on (a .floor) (a .board .now) (a .w) (f .first-word .result) (t .try-turn .last .0)
-    (t .try-turn .result) (f .first-word .ensures .0) (t .try-turn .ensures)))
+    turn-on (a .floor) (a .board .now) (a .w) (f .bucket-of .result) (t .try-turn .last .0)
+    (t .try-turn .result) (f .bucket-of .ensures .0) (t .try-turn .ensures)))

@@ -12,9 +12,12 @@ begin-spec =
     (tie.spec
     (λ c κs. search needs)
     (λ c κs. search needs)
+    (λ c κs. search needs)
     (λ c.
-    let n = c .before in
-    rw (eq-eqb _ 0 (sym (n .before .run-refusal .ensures .whole) ∙ c .if1 .taken), n .nothing .ensures .whole))
+    let l = c .before in
+    let n = l .before in
+    rw (eq-eqb _ 0 (sym (n .before .run-refusal .ensures .whole) ∙ c .if1 .taken), n .nothing .ensures .whole, l .no-report .ensures))
     (λ c.
-    let n = c .before in
-    rw (← n .before .run-refusal .ensures .whole, ne-eqb _ 0 (c .if1 .left), n .nothing .ensures .whole)))
+    let l = c .before in
+    let n = l .before in
+    rw (← n .before .run-refusal .ensures .whole, ne-eqb _ 0 (c .if1 .left), n .nothing .ensures .whole, l .no-report .ensures)))

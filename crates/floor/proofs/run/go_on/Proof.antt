@@ -14,4 +14,4 @@ go-on-spec =
     (λ c.
     let a = c .before in
     rw (eq-eqb _ 0 (a .before .before .if1 .taken), a .add .ensures .whole, c .next .ensures))
-    (λ c. rw (ne-eqb _ 0 (c .if1 .left))))
+    (λ c. rw (ne-eqb _ 0 (c .before .if1 .left))))

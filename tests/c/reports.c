@@ -1,0 +1,172 @@
+/* What a turn reports and what a run keeps of it: each field where C reads it, the reports around a slot that is given back, and what
+   desk.h says of the words in them, for a thousand turns in no order. */
+#include "hall.h"
+
+/* ---- each field with a value of its own: a lot closed in the last of 256 buckets, by a turn and as the last turn of a run */
+
+static const desk_report closed = {
+    .answer = 0x99AA00BBCC00DDEEu,
+    .before = 0x0001020144556677u,
+    .after = 0x0000020144556677u,
+    .bucket = 255,
+    .action = DESK_WON,
+    .ended = true,
+};
+
+/* and an insert beside it that goes round, for the field that is false there */
+static const desk_report went_round = {
+    .before = 0x0002010200008899u,
+    .after = 0x0002010200008899u,
+    .bucket = 254,
+    .action = DESK_READ,
+    .full = true,
+};
+
+/* the worker that closes the lot, about to swap */
+static desk_worker closer(void) {
+    return (desk_worker){
+        .key = 0x11223344556677FFu,
+        .word = closed.before,
+        .seen = closed.answer,
+        .kind = DESK_REMOVE,
+        .place = 13,
+        .slot = 2,
+        .held = DESK_NO_SLOT,
+    };
+}
+
+/* the worker that goes round, about to see that no slot is left */
+static desk_worker goer(void) {
+    return (desk_worker){.key = 254, .word = went_round.before, .ticket = 1, .kind = DESK_INSERT, .place = 5, .held = DESK_NO_SLOT};
+}
+
+static void set_up(hall *h) {
+    opened(h, 64, 256, 3);
+    h->board[8 * 254] = went_round.before;
+    h->board[8 * 255] = closed.before;
+}
+
+static void test_fields_of_turns(void) {
+    set_up(&one);
+    one.records[0] = closer();
+    one.records[1] = goer();
+    desk_turn_outcome t = turn(&one, 0);
+    CHECK(t.refusal == DESK_DONE && same_report(t.report, closed));
+    t = turn(&one, 1);
+    CHECK(t.refusal == DESK_DONE && same_report(t.report, went_round));
+    t = turn(&one, 1);
+    CHECK(t.refusal == DESK_DONE && t.report.action == DESK_READ && !t.report.full && t.report.bucket == 254);
+}
+
+/* four go round, five lose, one reads, one gives its slot back, one closes its lot, and the next is idle */
+static void test_fields_of_runs(void) {
+    static const uint8_t turns[] = {0, 1, 2, 3, 4, 5, 6, 7, 8, 9, 10, 11, 12, 11};
+    set_up(&one);
+    for (size_t i = 0; i < 12; i++) one.records[i] = i < 4 ? goer() : closer();
+    for (size_t i = 4; i < 9; i++) one.records[i].word = 7;
+    one.records[9].place = 12;
+    one.records[10] = goer();
+    one.records[10].place = 10, one.records[10].held = 2;
+    copy_hall(&two, &one);
+    desk_run_outcome r = run(&one, turns, 14);
+    CHECK(counts(r, 12, 2, 5, 4, DESK_IDLE_WORKER));
+    CHECK(same_report(r.last, closed));
+    r = run(&two, turns, 4);
+    CHECK(counts(r, 4, 0, 0, 4, DESK_DONE));
+    CHECK(same_report(r.last, went_round));
+}
+
+/* ---- a claimed slot given back: the only store that changes a mark word */
+
+/* so many turns of one worker; the last one's report */
+static desk_report turns_of(hall *h, size_t worker, unsigned turns) {
+    desk_report r = {0};
+    for (unsigned i = 0; i < turns; i++) r = turn(h, worker).report;
+    return r;
+}
+
+/* Worker 0 has claimed slot 0 when worker 1 inserts the same lot; so it loses its commit, finds the lot, and gives the slot back. All that
+   is in bucket 1, and worker 2 meanwhile commits in bucket 2, of which their reports tell nothing. */
+static void test_giving_back(void) {
+    uint64_t claimed = 0x0000000200000005u, both = 0x0000010200000006u, given_back = 0x0000010000000006u;
+    opened(&one, 3, 3, 5);
+    CHECK(start_insert(&one, 0, 7, 1) == DESK_DONE && start_insert(&one, 1, 7, 2) == DESK_DONE && start_insert(&one, 2, 8, 3) == DESK_DONE);
+    CHECK(same_report(turns_of(&one, 0, 8), (desk_report){.before = 5, .after = claimed, .bucket = 1, .action = DESK_WON}));
+    CHECK(same_report(turns_of(&one, 0, 1), (desk_report){.before = claimed, .after = claimed, .bucket = 1, .action = DESK_STORE}));
+    desk_report committed = turns_of(&one, 1, 11);
+    CHECK(committed.action == DESK_WON && committed.ended && committed.bucket == 1 && committed.after == both);
+    CHECK(turns_of(&one, 2, 11).bucket == 2);
+    CHECK(turns_of(&one, 0, 1).action == DESK_STORE);
+    CHECK(same_report(turns_of(&one, 0, 1), (desk_report){.before = both, .after = both, .bucket = 1, .action = DESK_LOST}));
+    CHECK(same_report(turns_of(&one, 0, 7), (desk_report){.before = both, .after = both, .bucket = 1, .action = DESK_READ}));
+    desk_report last = {.before = both, .after = given_back, .bucket = 1, .action = DESK_STORE, .ended = true};
+    CHECK(same_report(turns_of(&one, 0, 1), last));
+}
+
+/* ---- turns in no order, on an opened board: the reports of a bucket are a chain, the two words differ after a change and after nothing
+   else, whether a swap wins can be told from the words, and a swap is never lost to a change of its own worker */
+
+enum { WORKERS = 4, BUCKETS = 3, LOTS = 12, TURNS = 1000, FIRST_VERSION = 7 };
+
+typedef struct {
+    uint64_t word[BUCKETS];   /* that the last report of the bucket left */
+    uint64_t moment[WORKERS]; /* that the worker's last turn left which read the mark word whole or changed it */
+    size_t changer[BUCKETS];  /* whose turn it was that last reported two words that differ; nobody's is WORKERS */
+    unsigned won, lost, full, given_back;
+} account;
+
+/* numbers that look random and are the same each time (Steele, Lea and Flood's SplitMix) */
+static size_t below(size_t bound) {
+    static uint64_t state = 1;
+    uint64_t z = state += 0x9e3779b97f4a7c15u;
+    z = (z ^ z >> 30) * 0xbf58476d1ce4e5b9u;
+    z = (z ^ z >> 27) * 0x94d049bb133111ebu;
+    return (z ^ z >> 31) % bound;
+}
+
+static uint8_t start_any(hall *h, size_t worker) {
+    uint64_t lot = below(LOTS);
+    switch (below(4)) {
+    case 0: return start_look(h, worker, lot);
+    case 1: return start_remove(h, worker, lot);
+    default: return start_insert(h, worker, lot, h->floor.last + 1);
+    }
+}
+
+static void account_for(account *a, desk_report r, size_t worker, uint8_t place) {
+    bool change = r.action == DESK_WON || place == 10;
+    CHECK(r.before == a->word[r.bucket]);
+    CHECK((r.before != r.after) == change);
+    if (r.action == DESK_WON || r.action == DESK_LOST) CHECK((r.action == DESK_WON) == (r.before == a->moment[worker]));
+    if (r.action == DESK_LOST) CHECK(a->changer[r.bucket] < WORKERS && a->changer[r.bucket] != worker);
+    a->word[r.bucket] = r.after;
+    if (r.before != r.after) a->changer[r.bucket] = worker;
+    if (change || place == 1) a->moment[worker] = r.after;
+    a->won += r.action == DESK_WON;
+    a->lost += r.action == DESK_LOST;
+    a->full += r.full;
+    a->given_back += place == 10;
+}
+
+/* mostly the worker goes on, since a slot is given back only where its holder slept while another got on */
+static void test_any_order(void) {
+    account a = {.word = {FIRST_VERSION, FIRST_VERSION, FIRST_VERSION}, .changer = {WORKERS, WORKERS, WORKERS}};
+    size_t worker = 0;
+    opened(&one, WORKERS, BUCKETS, FIRST_VERSION);
+    for (unsigned i = 0; i < TURNS; i++) {
+        if (below(8) == 0) worker = below(WORKERS);
+        if (one.records[worker].kind == DESK_IDLE) CHECK(start_any(&one, worker) == DESK_DONE);
+        uint8_t place = one.records[worker].place;
+        desk_turn_outcome t = turn(&one, worker);
+        CHECK(t.refusal == DESK_DONE && t.report.bucket < BUCKETS);
+        if (t.report.bucket < BUCKETS) account_for(&a, t.report, worker, place);
+    }
+    CHECK(a.won > 0 && a.lost > 0 && a.full > 0 && a.given_back > 0);
+}
+
+void test_reports(void) {
+    test_fields_of_turns();
+    test_fields_of_runs();
+    test_giving_back();
+    test_any_order();
+}
