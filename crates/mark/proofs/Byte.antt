@@ -30,6 +30,7 @@ module _ (w k : ℕ) (fits : w < 2 ^ 64) (room : k ≤ 56) where
       (and-high (w / 2 ^ k) j 8 ∙ ap (λ (x : ℕ). x * 256) (mod-eq-of-lt top))
       (and-mask (w % 2 ^ k) k ∙ mod-eq-of-lt (mod-lt w (pow-pos k)))
 
+  -- §14.11: what `with_mark` makes of a word
   pub byte-set : (m : ℕ) → m < 256
       → bitOr (bitAnd w ((2 ^ 64 - 1) - 255 * 2 ^ k % 2 ^ 64)) (m * 2 ^ k % 2 ^ 64) ≡ w - (w / 2 ^ k % 256) * 2 ^ k + m * 2 ^ k
   byte-set m byte =

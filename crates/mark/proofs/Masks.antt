@@ -1,4 +1,4 @@
--- A mark word's test by a mask is the tests of its marks and of its byte 7. Assumes nothing.
+-- A mark word's test by masks is the tests of its marks and of its byte 7. Assumes nothing.
 use Prim.Native.Nat.{ℕ, _+_, _*_, _/_, _%_, _^_, _<_}
 use mathlib.Core.Bool.{Bool, true, false, _&&_, and-eq-true-iff}
 use mathlib.Core.Path.{_≡_, refl, sym, ap, ap₂, _∙_}
@@ -21,11 +21,16 @@ same-outcome false false there back = refl
 abbrev found : ℕ → ℕ → ℕ → ℕ
 found n mask ones = bitAnd (bitOr n (n + ones)) mask
 
+-- a mask finds the lowest byte's bits apart from those above it
+pub and-byte : (n rest low : ℕ) → low < 2 ^ 8 → bitAnd n (rest * 2 ^ 8 + low) ≡ bitAnd (n / 2 ^ 8) rest * 2 ^ 8 + bitAnd (n % 2 ^ 8) low
+and-byte n rest low byte =
+    ap (λ (x : ℕ). bitAnd x (rest * 2 ^ 8 + low)) (sym (split n 8))
+    ∙ and-block 8 (n / 2 ^ 8) rest (n % 2 ^ 8) low (mod-lt n (pow-pos 8)) byte
+
 -- a mask with 252 as its lowest byte keeps what the lowest byte of n has above 3
 above-three : (n rest : ℕ) → bitAnd n (rest * 2 ^ 8 + 252) ≡ bitAnd (n / 2 ^ 8) rest * 2 ^ 8 + n % 2 ^ 8 / 4 * 4
 above-three n rest =
-    ap (λ (x : ℕ). bitAnd x (rest * 2 ^ 8 + 252)) (sym (split n 8))
-    ∙ and-block 8 (n / 2 ^ 8) rest (n % 2 ^ 8) 252 (mod-lt n (pow-pos 8)) (omega arith)
+    and-byte n rest 252 (omega arith)
     ∙ ap (λ (x : ℕ). bitAnd (n / 2 ^ 8) rest * 2 ^ 8 + x) (and-high (n % 2 ^ 8) 6 2 ∙ omega arith)
 
 -- the lowest byte of any n is a mark, wherever in the word it came from
@@ -78,9 +83,10 @@ module _ (w : ℕ) (fits : w < 2 ^ 64) where
   unfolding byte7
   top-test = rw (add-zero, or-self) (and-mask (w / 2 ^ 56) 8 ∙ omega arith)
 
-  pub masks : eqb (found (w / 2 ^ 32) 0xFFFC_FCFC 0x0001_0101) 0 ≡ wellFormed w
+  -- §14.11: what `is_well_formed` makes of a word
+  pub well-formed-by-masks : eqb (found (w / 2 ^ 32) 0xFFFC_FCFC 0x0001_0101) 0 ≡ wellFormed w
   unfolding wellFormed markOf byte7
-  masks =
+  well-formed-by-masks =
       rw (
         mark-test (w / 2 ^ 32) 0xFF_FCFC 0x0101,
         shr-shr w 32 8,

@@ -34,7 +34,7 @@ pub extern "C" fn mark_of(word: u64, slot: u8) -> u8
     ((word >> mark_shift(slot)) & 255) as u8
 }
 
-// §14.5: it is set by shifts and masks.
+// §14.5, §14.11: it is set by shifts and masks.
 pub fn with_mark(word: u64, slot: u8, mark: u8) -> u64
     ensures { λ r. ⌜ r ≡ setMark word slot mark ⌝ }
 {
@@ -67,23 +67,18 @@ pub fn with_next_version(word: u64) -> u64
     ((word >> 32) << 32) | (next_version(version_of(word)) as u64)
 }
 
-// §4.7: the lowest slot that is empty, or no slot.
+// §4.7, §14.11: the lowest slot that is empty, or no slot.
 pub fn first_empty(word: u64) -> u8
     ensures { λ r. ⌜ r ≡ firstEmpty word ⌝ }
 {
-    if mark_of(word, 0) == EMPTY {
-        return 0;
-    }
-    if mark_of(word, 1) == EMPTY {
-        return 1;
-    }
-    if mark_of(word, 2) == EMPTY {
-        return 2;
-    }
-    NO_SLOT
+    let above = (word >> 32) as u32;
+    // A mark other than 0 has its highest bit, or gets it when 127 is added to its other bits.
+    let taken = (above | ((above & 0x007F_7F7F) + 0x007F_7F7F)) & 0x0080_8080;
+    // The highest bits of the empty marks are left, and that of byte 7, which stands for no slot.
+    (u32::trailing_zeros(taken ^ 0x8080_8080) / 8) as u8
 }
 
-// §3.7: no mark is over 2, and byte 7 is zero.
+// §3.7, §14.11: no mark is over 2, and byte 7 is zero.
 pub fn is_well_formed(word: u64) -> bool
     ensures { λ r. ⌜ r ≡ wellFormed word ⌝ }
 {
