@@ -1,17 +1,24 @@
--- A turn that is done, told by the board: its bucket is left as the place table says, and every other as it was. Assumes nothing.
+-- A turn that is done: its bucket is left as the place table says, and every other as it was; what it reports, and what becomes of its worker.
+-- Assumes nothing.
 use Prim.Native.Nat.{ℕ, _+_, _*_, _≤_}
 use mathlib.Core.List.{List}
 use mathlib.Core.Path.{_≡_, sym, ap, subst, _∙_}
 use lib.ListN.{length}
+use Rattle.mark.proofs.Choices.{not-both}
+use Rattle.turn.specs.declared.Progress.{Progress}
+use Rattle.turn.specs.declared.Progress.the-variants.{Ended}
+use Rattle.turn.specs.declared.Report.{Report}
+use Rattle.turn.specs.declared.Stepped.{Stepped}
 use Rattle.turn.specs.Worker.{idle}
 use Rattle.turn.specs.Bucket.{cell}
 use Rattle.turn.proofs.Cells.{turn-long}
+use Rattle.turn.proofs.Kept.{Idles, is-idle}
 use Rattle.turn.proofs.Outcomes.{Did}
 use Rattle.turn.proofs.Outcome.{turn-did}
 use Rattle.turn.proofs.Stays.{StaysOn, turn-on}
 use Rattle.engine.specs.Board.{bucketOf, bucketAt}
 use Rattle.engine.proofs.Cut.{bucket-within, same-bucket, other-bucket}
-use Rattle.history.specs.Trace.{Entry}
+use Rattle.history.specs.Trace.{Entry, Continues}
 use Rattle.history.specs.History.{State}
 use Rattle.history.specs.Cells.{home}
 use Rattle.history.proofs.Steps.{Turns, stepOf}
@@ -47,7 +54,25 @@ module _ {s t : State} {e : Entry} (act : Turns s e t) where
       subst (λ (l : List ℕ). Did (λ k. cell bucket k) (e .was) (λ k. cell l k) (stepOf s e .stepped)) (sym own-bucket)
       (turn-did bucket (e .was) (act .ok))
 
+  -- ---- the report
+
+  -- a turn reports the action of its step
+  pub action-is : {x : Stepped} → stepOf s e .stepped ≡ x → e .report .action ≡ x .action
+  action-is is = ap (λ (r : Report). r .action) (act .report) ∙ ap (λ (y : Stepped). y .action) is
+
+  -- a turn reports the progress of its step
+  pub progress-is : {x : Stepped} → stepOf s e .stepped ≡ x → e .report .progress ≡ x .progress
+  progress-is is = ap (λ (r : Report). r .progress) (act .report) ∙ ap (λ (y : Stepped). y .progress) is
+
   -- ---- the worker
+
+  -- a worker whose turn ends its call is idle after it
+  pub ended-idle : (answer : ℕ) → e .report .progress ≡ Ended answer → stepOf s e .stepped .worker ≡ idle
+  ended-idle answer ended = subst (λ (p : Progress). Idles p (stepOf s e .stepped .worker)) ended (act .acts .idles)
+
+  -- a worker whose turn goes on is busy after it
+  pub goes-busy : Continues e → stepOf s e .stepped .worker ≡ idle → ⊥
+  goes-busy goes is = not-both _ (subst (λ (p : Progress). Idles p (stepOf s e .stepped .worker)) goes (act .acts .idles)) (rw is is-idle)
 
   -- its bucket is that of its lot
   pub was-home : e .report .bucket ≡ home (s .floor .buckets) (e .was)

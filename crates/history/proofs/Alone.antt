@@ -12,7 +12,6 @@ use Rattle.mark.specs.Word.{markOf}
 use Rattle.turn.specs.declared.Worker.{Worker}
 use Rattle.turn.specs.declared.Action.{Action}
 use Rattle.turn.specs.declared.Stepped.{Stepped}
-use Rattle.turn.specs.declared.Report.{Report}
 use Rattle.turn.specs.Worker.{idle}
 use Rattle.turn.specs.Bucket.{cell, markCell, valueCell}
 use Rattle.turn.specs.Places.{goesOn, ends, turn}
@@ -31,7 +30,7 @@ use Rattle.history.specs.HowLong.{Alone, EndsAlone, GoesOnFor, NeverEnds
 use Rattle.history.proofs.View.{new-record, old-record}
 use Rattle.history.proofs.States.{view}
 use Rattle.history.proofs.Steps.{Begins, Turns, stepOf, done-turns, calls-last}
-use Rattle.history.proofs.Account.{own-bucket, was-home, still-home}
+use Rattle.history.proofs.Account.{own-bucket, progress-is, was-home, still-home}
 use Rattle.history.proofs.Unrefused.{busy-moves, idle-stays, run-accepted}
 use Rattle.history.proofs.Unbroken.{number-is, turn-unbroken}
 use Rattle.history.proofs.Later.{none-last, some-front, some-last}
@@ -86,10 +85,10 @@ module _ (A : List ℕ → ℕ → Worker → Type 0) (Q : Type 0) where
           let worker : x .worker ≡ v = ap (λ (y : Stepped). y .worker) is in
           let there : home (t .floor .buckets) (recordOf t (e .worker)) ≡ e .report .bucket =
           ap (home (t .floor .buckets)) record-then ∙ still-home act (λ rests. count .busy more (sym worker ∙ rests)) in
-          goes (ap (λ (r : Report). r .progress) (act .report) ∙ ap (λ (y : Stepped). y .progress) is)
+          goes (progress-is act is)
           (rw (there, own-bucket act, record-then, worker) more)
       by-step (final can a answer) is =
-          ended can (answered-ends e answer (ap (λ (r : Report). r .progress) (act .report) ∙ ap (λ (y : Stepped). y .progress) is))
+          ended can (answered-ends e answer (progress-is act is))
           (record-then ∙ ap (λ (y : Stepped). y .worker) is)
 
       turn-went : Afterwards (e .worker) k t e

@@ -42,14 +42,15 @@ module _ (o : Opening) where
   pub record Rests (w : Worker) : Type 0 where
     pub kind : w .kind ≡ 0
     pub place : w .place ≡ 0
+    pub slot : w .slot ≡ 0
 
   -- an opening leaves every worker at no call
   pub rests : (i : ℕ) → Rests (worker (view (opened o)) i)
   rests i = by (opened-idle o i)
     where
       by : (worker (view (opened o)) i ≡ idle) ⊎ (worker (view (opened o)) i ≡ blank) → Rests (worker (view (opened o)) i)
-      by (inl is) = rw is (record { kind = refl; place = refl })
-      by (inr is) = rw is (record { kind = refl; place = refl })
+      by (inl is) = rw is (record { kind = refl; place = refl; slot = refl })
+      by (inr is) = rw is (record { kind = refl; place = refl; slot = refl })
 
   -- no worker has a word in mind
   pub opened-unaware : (i : ℕ) → Aware (worker (view (opened o)) i) → ⊥

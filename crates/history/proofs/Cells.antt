@@ -43,7 +43,7 @@ swaps-elsewhere (at9 place known) = omega arith
 swaps-elsewhere (at13 place known) = omega arith
 
 -- a worker that holds a slot is busy
-holds-busy : (w : Worker) → Holds w → w ≡ idle → ⊥
+pub holds-busy : (w : Worker) → Holds w → w ≡ idle → ⊥
 holds-busy w holds is = omega (arith, holds .0, ap (λ (x : Worker). x .kind) is)
 
 module _ (c : ℕ → ℕ) (w : Worker) (d : ℕ → ℕ) (old : Holds w → Fills c w) where
@@ -124,12 +124,13 @@ module _ {s t : State} {e : Entry} (act : Turns s e t) (old : Known s) where
       let was : Holds w → Fills (cellsAt s (e .report .bucket)) w = λ held. rw here (filled-was held) in
       rw (still-home act busy) (did-fills (cellsAt s (e .report .bucket)) w (cellsAt t (e .report .bucket)) was (turn-account act) (still-on act busy) holds)
 
-  -- the value of a slot stays unless the worker stores its ticket there, and its key unless it stores its lot
-  value-same : (b p : ℕ) → (b ≡ e .report .bucket → p ≡ w .held → w .place ≡ 7 → Holds w → ⊥) → valueAt t b p ≡ valueAt s b p
+  -- the value of a slot stays unless the worker stores its ticket there
+  pub value-same : (b p : ℕ) → (b ≡ e .report .bucket → p ≡ w .held → w .place ≡ 7 → Holds w → ⊥) → valueAt t b p ≡ valueAt s b p
   value-same b p none =
       turn-spares act b p (λ stores same slot. none same slot (stores .0) (let place = stores .0 in filled _ w (act .ok) (omega arith) (omega arith)))
 
-  key-same : (b p : ℕ) → p ≤ 2 → (b ≡ e .report .bucket → p ≡ w .held → w .place ≡ 8 → Holds w → ⊥) → keyAt t b p ≡ keyAt s b p
+  -- the key of a slot stays unless the worker stores its lot there
+  pub key-same : (b p : ℕ) → p ≤ 2 → (b ≡ e .report .bucket → p ≡ w .held → w .place ≡ 8 → Holds w → ⊥) → keyAt t b p ≡ keyAt s b p
   key-same b p few none = by (ℕ-discrete b (e .report .bucket))
     where
       own : b ≡ e .report .bucket → (keyAt t (e .report .bucket) p ≡ keyAt s (e .report .bucket) p) ⊎ HeldAt 8 w p → keyAt t (e .report .bucket) p ≡ keyAt s (e .report .bucket) p
@@ -243,7 +244,7 @@ known-lasts = record { begins = λ past ts start old. start-known start old; tur
 
 module _ (o : Opening) where
   -- no slot of an opened board has a mark
-  opened-mark : (b p : ℕ) → markAt (opened o) b p ≡ 0
+  pub opened-mark : (b p : ℕ) → markAt (opened o) b p ≡ 0
   opened-mark b p =
       ap (λ (x : State). markAt x b p) (opened-is o) ∙ by (opened-or-none (o .plan .buckets) (o .plan .version) b)
     where
@@ -254,7 +255,8 @@ module _ (o : Opening) where
       by (inl is) = rw is (no-mark (o .plan .version) (o .version-fits) p)
       by (inr is) = rw is (no-mark 0 (omega arith) p)
 
-  opened-known : Known (opened o)
+  -- an opening leaves every slot as is known
+  pub opened-known : Known (opened o)
   opened-known =
       record {
         kept = rw (ap (λ (x : State). x .floor .buckets) (opened-is o)) (opened-good o .kept);

@@ -4,13 +4,9 @@ use mathlib.Core.List.{List, [], _∷_, _++_, append-assoc}
 use mathlib.Core.Path.{_≡_, refl, sym, ap, subst, _∙_}
 use native.Mathlib.Decide.{ℕ-discrete}
 use native.Mathlib.Omega.{arith}
-use Rattle.mark.proofs.Choices.{not-both}
 use Rattle.turn.specs.declared.Worker.{Worker}
 use Rattle.turn.specs.declared.Stepped.{Stepped}
-use Rattle.turn.specs.declared.Report.{Report}
-use Rattle.turn.specs.declared.Progress.{Progress}
-use Rattle.turn.specs.Worker.{lookKind, idle, lookFor, isIdle}
-use Rattle.turn.proofs.Kept.{Idles, is-idle}
+use Rattle.turn.specs.Worker.{lookKind, idle, lookFor}
 use Rattle.engine.specs.Board.{bucketAt}
 use Rattle.history.specs.Trace.{Entry, Ends, Continues}
 use Rattle.history.specs.InCall.{InCall, numberInCall}
@@ -22,7 +18,7 @@ use Rattle.history.proofs.Beginning.{rests}
 use Rattle.history.proofs.Cuts.{no-cut}
 use Rattle.history.proofs.Later.{CutLast, last, sooner, cut-last}
 use Rattle.history.proofs.Steps.{Begins, StartOf, of-look, of-insert, of-remove, Turns, stepOf, calls-last}
-use Rattle.history.proofs.Account.{still-on}
+use Rattle.history.proofs.Account.{progress-is, goes-busy, still-on}
 use Rattle.history.proofs.Numbered.{answered-ends, oneMore, hadFrom, had-append, ended-now, goes-now, others-now, in-call-had}
 use Rattle.history.proofs.Looking.{Looked, look-started, Next, on, over, look-next}
 
@@ -67,20 +63,12 @@ module _ {s t : State} {e : Entry} (past : List Entry) (act : Turns s e t) (old 
   abbrev v : Worker
   v = stepOf s e .stepped .worker
 
-  progress-is : e .report .progress ≡ stepOf s e .stepped .progress
-  progress-is = ap (λ (r : Report). r .progress) (act .report)
-
   had-then : (j : ℕ) → hadFrom j 0 (past ++ (e ∷ [])) ≡ oneMore j (hadFrom j 0 past) e
   unfolding hadFrom
   had-then j = had-append j 0 past (e ∷ [])
 
   counts-was : Counts had (e .was)
   counts-was = rw (act .acts .was) (old .each i)
-
-  -- an idle worker has just ended its call
-  idle-ends : v ≡ idle → Ends e
-  idle-ends is goes =
-      not-both (isIdle v) (subst (λ (p : Progress). Idles p v) goes (act .acts .idles)) (rw is is-idle)
 
   -- the call that goes on is the one that went on before
   same-kind : v .kind ≡ lookKind → e .was .kind ≡ lookKind
@@ -90,7 +78,7 @@ module _ {s t : State} {e : Entry} (past : List Entry) (act : Turns s e t) (old 
   -- what a look's turn leaves goes with its number, and it came in time
   by-next : {x : Stepped} → Next had x → stepOf s e .stepped ≡ x → Counts (oneMore i had e) (x .worker) × Within past e
   by-next (on {v} looked) is =
-      let goes : Continues e = progress-is ∙ ap (λ (x : Stepped). x .progress) is in (
+      let goes : Continues e = progress-is act is in (
         record {
           rests = λ idles. absurd (omega (arith, looked .from, ap (λ (x : Worker). x .place) idles));
           looks = λ look. subst (λ (n : ℕ). Looked n v) (sym (goes-now i had e refl goes)) looked;
@@ -98,7 +86,7 @@ module _ {s t : State} {e : Entry} (past : List Entry) (act : Turns s e t) (old 
         record { most = omega (arith, looked .most, looked .slot, looked .to); least = λ ends. absurd (ends goes) },
       )
   by-next (over answer least most) is =
-      let ends : Ends e = answered-ends e answer (progress-is ∙ ap (λ (x : Stepped). x .progress) is) in (
+      let ends : Ends e = answered-ends e answer (progress-is act is) in (
         record { rests = λ idles. ended-now i had e refl ends; looks = λ look. absurd (omega arith) },
         record { most = most; least = λ ends. least },
       )
@@ -109,7 +97,7 @@ module _ {s t : State} {e : Entry} (past : List Entry) (act : Turns s e t) (old 
   mine : Dec (e .was .kind ≡ lookKind) → Counts (oneMore i had e) v
   mine (yes look) = looks-next look .0
   mine (no other) =
-      record { rests = λ is. ended-now i had e refl (idle-ends is); looks = λ look. absurd (other (same-kind look)) }
+      record { rests = λ is. ended-now i had e refl (λ goes. goes-busy act goes is); looks = λ look. absurd (other (same-kind look)) }
 
   turn-within : (before : List Entry) (d : Entry) → CutLast past e before d → d .was .kind ≡ lookKind → Within before d
   turn-within before d (last is at) = rw (is, at) (λ look. looks-next look .1)

@@ -40,7 +40,7 @@ board-value n v b p = by (opened-or-none n v b)
 
 module _ (o : Opening) where
   -- an opening leaves 0 as every value
-  opened-value : (b p : ℕ) → valueAt (opened o) b p ≡ 0
+  pub opened-value : (b p : ℕ) → valueAt (opened o) b p ≡ 0
   opened-value b p =
       ap (λ (s : State). valueAt s b p) (opened-is o)
       ∙ board-value (o .plan .buckets) (o .plan .version) b p
@@ -49,7 +49,8 @@ module _ (o : Opening) where
   opened-no-insert : (i : ℕ) → recordOf (opened o) i .kind ≡ insertKind → ⊥
   opened-no-insert i insert = omega (arith, insert, rests o i .kind)
 
-  opened-spent : Spent (opened o) [] []
+  -- an opening leaves no ticket spent
+  pub opened-spent : Spent (opened o) [] []
   opened-spent =
       record {
         rising = tt;

@@ -94,6 +94,7 @@ module _ (i : ℕ) where
   had-none k es none =
       omega (arith, had-more k es (λ some. none (some-as _ (By i) es some (some .holds .0))), none-own es none)
 
+  -- a worker at no call has had no turn of one
   rested-had : (es : List Entry) → AtRest i es → hadFrom 0 es ≡ 0
   unfolding hadFrom
   rested-had es (inl none) = had-none 0 es none

@@ -99,7 +99,37 @@ module _ (P : State → List Entry → List ℕ → Type 0) where
         → P t past (ts ++ spent)
     pub turns : {s t : State} {e : Entry} (past : List Entry) (ts : List ℕ) → Turns s e t → P s past ts → P t (past ++ (e ∷ [])) ts
 
+  -- every turn that is done keeps it
+  abbrev pub TurnsKeep : Type 0
+  TurnsKeep = (s t : State) (e : Entry) (past : List Entry) (ts : List ℕ) → Turns s e t → P s past ts → P t (past ++ (e ∷ [])) ts
+
+  module _ (keeps : TurnsKeep) where
+    -- what every turn done keeps, every turn keeps, done or refused
+    pub turn-lasts : (s : State) (i : ℕ) (past : List Entry) (ts : List ℕ) → P s past ts → P (after s (turn i)) (past ++ turnEntry s i) ts
+    turn-lasts s i past ts h =
+        by-turn s i (λ (t : State) (es : List Entry). P t (past ++ es) ts) (λ e t act. keeps s t e past ts act h) (rw (append-nil past) h)
+
+    -- what every turn done keeps, turns one after another keep
+    pub turns-last :
+        (turns : List ℕ) (s : State) (past : List Entry) (ts : List ℕ)
+        → P s past ts
+        → P (stateFrom s (map turn turns)) (past ++ traceFrom s (map turn turns)) ts
+    unfolding stateFrom traceFrom
+    turns-last [] s past ts h = rw (append-nil past) h
+    turns-last (i ∷ turns) s past ts h =
+        rw (← append-assoc past (turnEntry s i) (traceFrom (after s (turn i)) (map turn turns)))
+        (turns-last turns (after s (turn i)) (past ++ turnEntry s i) ts (turn-lasts s i past ts h))
+
+    -- what every turn done keeps, a run keeps
+    pub run-lasts : (s : State) (turns : List ℕ) (past : List Entry) (ts : List ℕ) → P s past ts → P (after s (run turns)) (past ++ entries s (run turns)) ts
+    run-lasts s turns past ts h =
+        subst (λ (t : State). P t (past ++ entries s (run turns)) ts) (sym (run-state s turns))
+        (rw (run-trace s turns) (turns-last (take (runOf s turns .handed .totals .turns) turns) s past ts h))
+
   module _ (lasts : Lasts) where
+    kept : TurnsKeep
+    kept s t e past ts act h = lasts .turns past ts act h
+
     start-lasts :
         (s : State) (i : ℕ) (late : Bool) (v : Worker) (g : Floor) (spent : List ℕ)
         → Fresh (s .floor) late v g
@@ -138,25 +168,6 @@ module _ (P : State → List Entry → List ℕ → Type 0) where
         nothing true = refl
         nothing false = refl
 
-    turn-lasts : (s : State) (i : ℕ) (past : List Entry) (ts : List ℕ) → P s past ts → P (after s (turn i)) (past ++ turnEntry s i) ts
-    turn-lasts s i past ts h =
-        by-turn s i (λ (t : State) (es : List Entry). P t (past ++ es) ts) (λ e t act. lasts .turns past ts act h) (rw (append-nil past) h)
-
-    turns-last :
-        (turns : List ℕ) (s : State) (past : List Entry) (ts : List ℕ)
-        → P s past ts
-        → P (stateFrom s (map turn turns)) (past ++ traceFrom s (map turn turns)) ts
-    unfolding stateFrom traceFrom
-    turns-last [] s past ts h = rw (append-nil past) h
-    turns-last (i ∷ turns) s past ts h =
-        rw (← append-assoc past (turnEntry s i) (traceFrom (after s (turn i)) (map turn turns)))
-        (turns-last turns (after s (turn i)) (past ++ turnEntry s i) ts (turn-lasts s i past ts h))
-
-    run-lasts : (s : State) (turns : List ℕ) (past : List Entry) (ts : List ℕ) → P s past ts → P (after s (run turns)) (past ++ entries s (run turns)) ts
-    run-lasts s turns past ts h =
-        subst (λ (t : State). P t (past ++ entries s (run turns)) ts) (sym (run-state s turns))
-        (rw (run-trace s turns) (turns-last (take (runOf s turns .handed .totals .turns) turns) s past ts h))
-
     call-lasts : (s : State) (c : Call) (past : List Entry) (ts : List ℕ) → P s past ts → P (after s c) (past ++ entries s c) (ts ++ spentBy s c)
     call-lasts s (look i lot) past ts h = rw (append-nil past) (plain-lasts s i (lookFor lot) (look-fresh (s .floor) lot) (of-look lot) (omega arith) past ts h)
     call-lasts s (insert i lot t) past ts h =
@@ -164,8 +175,8 @@ module _ (P : State → List Entry → List ℕ → Type 0) where
         (insert-fresh (s .floor) lot (t .number) (t .fits)) (of-insert lot (t .number)) refl
         (λ early. ticketed (leb-false (t .number) (s .floor .last) early) refl refl) past ts h)
     call-lasts s (remove i lot) past ts h = rw (append-nil past) (plain-lasts s i (removeOf lot) (remove-fresh (s .floor) lot) (of-remove lot) (omega arith) past ts h)
-    call-lasts s (turn i) past ts h = rw (append-nil ts) (turn-lasts s i past ts h)
-    call-lasts s (run turns) past ts h = rw (append-nil ts) (run-lasts s turns past ts h)
+    call-lasts s (turn i) past ts h = rw (append-nil ts) (turn-lasts kept s i past ts h)
+    call-lasts s (run turns) past ts h = rw (append-nil ts) (run-lasts kept s turns past ts h)
     call-lasts s (show lot) past ts h = rw (append-nil past, append-nil ts) h
     call-lasts s count past ts h = rw (append-nil past, append-nil ts) h
 

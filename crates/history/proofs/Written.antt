@@ -30,7 +30,7 @@ module _ {s t : State} {e : Entry} (act : Turns s e t) where
   bucket = bucketAt (s .board) (e .report .bucket)
 
   -- a turn at place 7 is one that stores
-  stores-at : e .was .place ≡ ticketPlace → Stores e
+  pub stores-at : e .was .place ≡ ticketPlace → Stores e
   stores-at place = (place, ap (λ (r : Report). r .action) (act .report) ∙ turn-stores bucket (e .was) (act .ok) place)
 
   -- a turn that stores no ticket changes no value

@@ -1,0 +1,25 @@
+-- What is counted in a trace, with one turn more at its end. Assumes nothing.
+use Prim.Native.Nat.{_+_, _≤_}
+use mathlib.Core.List.{List, [], _∷_, _++_}
+use mathlib.Core.Path.{_≡_}
+use native.Mathlib.Omega.{arith}
+use Rattle.history.specs.Trace.{Entry, total}
+use Rattle.history.specs.Counts.{oneIf, howMany}
+use Rattle.history.proofs.Counts.{total-append, one-yes, one-no}
+
+module _ {P : Entry → Type 0} (test : (e : Entry) → Dec (P e)) (past : List Entry) (e : Entry) where
+  count-then : howMany test (past ++ (e ∷ [])) ≡ howMany test past + oneIf (test e)
+  unfolding total
+  count-then = omega (arith, total-append (λ x. oneIf (test x)) past (e ∷ []))
+
+  -- a turn that is counted makes one more
+  pub count-more : P e → howMany test (past ++ (e ∷ [])) ≡ howMany test past + 1
+  count-more is = omega (arith, count-then, one-yes (test e) is)
+
+  -- a turn that is not counted leaves as many
+  pub count-same : (P e → ⊥) → howMany test (past ++ (e ∷ [])) ≡ howMany test past
+  count-same isnot = omega (arith, count-then, one-no (test e) isnot)
+
+  -- no turn leaves fewer than were counted before
+  pub count-le : howMany test past ≤ howMany test (past ++ (e ∷ []))
+  count-le = omega (arith, count-then)

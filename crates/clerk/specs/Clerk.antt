@@ -1,0 +1,124 @@
+-- The whole board is one clerk: what is promised of every opening and every list of calls, accepted or refused. A run is its turns called
+-- one by one (`runs-are-turns`), so that what is said of the state after calls is said after every call and after every turn. That it
+-- holds is `the-clerk`, in proofs/TheClerk.
+use Prim.Native.Nat.{ℕ, _+_, _≤_, _<_}
+use mathlib.Core.List.{List, _∷_, _++_}
+use mathlib.Core.Logic.{_⊎_, _↔_}
+use mathlib.Core.Path.{_≡_}
+use lib.ListN.{length}
+use Rattle.mark.specs.Word.{markOf}
+use Rattle.turn.specs.Worker.{idle}
+use Rattle.turn.specs.Bucket.{cell, markCell, keyCell, valueCell}
+use Rattle.engine.specs.Board.{bucketAt}
+use Rattle.engine.specs.Calls.{showCall, countCall}
+use Rattle.engine.specs.declared.Counted.the-variants.{Lots}
+use Rattle.history.specs.Trace.{Entry, By, Ends, None}
+use Rattle.history.specs.History.{State, Opening, Call, Ticket, recordOf, begins, state, trace, workersOf}
+use Rattle.history.specs.History as History
+use Rattle.history.specs.Cells.{markAt, home, Holds}
+use Rattle.clerk.specs.Does.{Line, Asked, look, insert, remove, TellsChange}
+use Rattle.clerk.specs.Calls.{EndedCall, IsCallOf, HasMoments, Settles, asks, listAfter}
+use Rattle.clerk.specs.Sequence.{In, Ordered, Placed, OneByOne}
+
+-- ---- the valid slots
+
+-- slot p of a bucket of these words is valid, and has the lot and the ticket of a line
+pub record HasLine (words : List ℕ) (p : ℕ) (l : Line) : Type 0 where
+  pub few : p ≤ 2
+  pub valid : markOf (cell words markCell) p ≡ 1
+  pub lot : cell words (keyCell p) ≡ l .lot
+  pub ticket : cell words (valueCell p) ≡ l .ticket
+
+-- slot p of bucket b of the board has the line
+pub record Stands (s : State) (b p : ℕ) (l : Line) : Type 0 where
+  pub under : b < s .floor .buckets
+  pub slot : HasLine (bucketAt (s .board) b) p l
+
+-- worker i is an insert that holds slot p of bucket b
+pub record IsHeldBy (s : State) (b p i : ℕ) : Type 0 where
+  pub holds : Holds (recordOf s i)
+  pub bucket : home (s .floor .buckets) (recordOf s i) ≡ b
+  pub slot : recordOf s i .held ≡ p
+
+-- ---- the start of a call
+
+-- the start by which worker i asks this
+pub data IsStart (i : ℕ) : Asked → Call → Type 0 where
+  looks : (lot : ℕ) → IsStart i (look lot) (History.look i lot)
+  inserts : (lot : ℕ) (t : Ticket) → IsStart i (insert lot (t .number)) (History.insert i lot t)
+  removes : (lot : ℕ) → IsStart i (remove lot) (History.remove i lot)
+
+-- §17.3: a start among the calls that was accepted
+pub record Start (o : Opening) (calls : List Call) : Type 0 where
+  pub earlier : List Call
+  pub call : Call
+  pub later : List Call
+  pub cut : calls ≡ earlier ++ (call ∷ later)
+  -- whose it is, and what it asks
+  pub worker : ℕ
+  pub asked : Asked
+  pub is : IsStart worker asked call
+  pub accepted : begins (state o earlier) call ≡ 0 → ⊥
+
+-- §17.3: c is a call that ended, and was begun by that start
+pub record BegunBy (o : Opening) (calls : List Call) (start : Start o calls) (c : EndedCall) : Type 0 where
+  pub is : IsCallOf (trace o calls) c
+  -- it is the same worker's, and asks the same
+  pub worker : c .worker ≡ start .worker
+  pub asked : c .asked ≡ start .asked
+  -- the turns before the start, those of other workers until the call's first turn, and the rest
+  pub waiting : List Entry
+  pub rest : List Entry
+  pub turns : trace o calls ≡ trace o (start .earlier) ++ (waiting ++ rest)
+  pub others : None (By (start .worker)) waiting
+  pub first : c .first ≡ length (trace o (start .earlier) ++ waiting) + 1
+
+-- §17.3: the worker is still at the call of that start
+pub record StillAt (o : Opening) (calls : List Call) (start : Start o calls) : Type 0 where
+  pub busy : recordOf (state o calls) (start .worker) ≡ idle → ⊥
+  pub asks-it : asks (recordOf (state o calls) (start .worker)) ≡ start .asked
+  -- no turn since the start has ended a call of that worker
+  pub since : List Entry
+  pub turns : trace o calls ≡ trace o (start .earlier) ++ since
+  pub unended : None (λ e. By (start .worker) e × Ends e) since
+
+-- ---- all that is claimed
+
+-- the board is one clerk
+pub record Clerk (o : Opening) (calls : List Call) : Type 0 where
+  -- §17.4: no lot twice: two valid slots with one lot are one slot
+  pub no-lot-twice :
+      (b p c q : ℕ) (l k : Line) → Stands (state o calls) b p l → Stands (state o calls) c q k → l .lot ≡ k .lot → (b ≡ c) × (p ≡ q)
+  -- §17.4: the list: a lot with a ticket is in it exactly if it stands in a valid slot
+  pub the-list : (l : Line) → In l (listAfter (trace o calls)) ↔ ((b : ℕ) × (p : ℕ) × Stands (state o calls) b p l)
+  -- §17.4: no lot is in the list twice
+  pub listed-once : Ordered (λ x y. x .lot ≡ y .lot → ⊥) (listAfter (trace o calls))
+  -- §17.4: a lot in the list has a ticket of at least 1, so that the answer 0 says that it is not there
+  pub ticketed : (l : Line) → In l (listAfter (trace o calls)) → 1 ≤ l .ticket
+  -- §17.4: a count tells how long the list is
+  pub counted : countCall (state o calls .board) (state o calls .floor) ≡ Lots (length (listAfter (trace o calls)))
+  -- §17.4: the bucket that is shown for a lot tells whether the lot is in the list, and with which ticket
+  pub shown :
+      (l : Line)
+      → In l (listAfter (trace o calls)) ↔ ((p : ℕ) × HasLine (showCall (state o calls .board) (state o calls .floor) (l .lot)) p l)
+  -- §17.8: a slot is being inserted exactly if a worker holds it
+  pub held : (b p : ℕ) → (markAt (state o calls) b p ≡ 2) ↔ ((i : ℕ) × (i < workersOf o) × IsHeldBy (state o calls) b p i)
+  -- §17.8: and no slot is held by two
+  pub held-once : (b p i j : ℕ) → IsHeldBy (state o calls) b p i → IsHeldBy (state o calls) b p j → i ≡ j
+  -- §17.3: each call that ended was begun by a start that was accepted
+  pub started : (c : EndedCall) → IsCallOf (trace o calls) c → (start : Start o calls) × BegunBy o calls start c
+  -- §17.3: each start that was accepted began a call that has ended, or its worker is at it still
+  pub accounted : (start : Start o calls) → ((c : EndedCall) × BegunBy o calls start c) ⊎ StillAt o calls start
+  -- §17.3: no call was begun by two starts
+  pub one-start :
+      (c : EndedCall) (one two : Start o calls) → BegunBy o calls one c → BegunBy o calls two c → one .earlier ≡ two .earlier
+  -- §17.3: no start began two calls
+  pub one-call : (start : Start o calls) (c d : EndedCall) → BegunBy o calls start c → BegunBy o calls start d → c ≡ d
+  -- §17.3: nor one that has ended while its worker is at it still
+  pub not-ended : (start : Start o calls) (c : EndedCall) → BegunBy o calls start c → StillAt o calls start → ⊥
+  -- §17.5, §17.6: won commits and closes are moments, and every other call that ended has one
+  pub moments : HasMoments (trace o calls)
+  -- §17.5: whether a call ended by a commit or a close is told by its answer
+  pub told : (c : EndedCall) (is : IsCallOf (trace o calls) c) → Settles (is .at .turn) ↔ TellsChange (c .asked) (c .answer)
+  -- §17.7: the calls that ended can be put one by one, so that the clerk gives each of them its answer
+  pub one-by-one : (sequence : List Placed) × OneByOne (trace o calls) sequence

@@ -1,0 +1,67 @@
+//! Schedules: an opening, and then starts and turns, of which some may be refused.
+
+use reference::random::Random;
+
+/// The numbers stand in the order worker, lot, ticket; or worker, how many turns.
+#[derive(Clone, Copy, Debug, PartialEq, Eq)]
+pub enum Event {
+    Look(u64, u64),
+    Insert(u64, u64, u32),
+    Remove(u64, u64),
+    Turns(u64, usize),
+}
+
+#[derive(Clone, Debug)]
+pub struct Schedule {
+    pub workers: u64,
+    pub buckets: u64,
+    pub version: u32,
+    pub events: Vec<Event>,
+}
+
+/// A schedule that looks at nothing while it is made, so that every engine can be given the same one.
+pub fn any_schedule(seed: u64) -> Schedule {
+    let mut random = Random::new(seed);
+    let workers = 2 + random.below(4);
+    let buckets = random.pick(&[1, 1, 1, 2, 3]);
+    let near = random.below(4) as u32;
+    let version = random.pick(&[0, near, u32::MAX - near]);
+    // with one lot for a bucket all calls meet, with four its three slots do not suffice
+    let lots = buckets * (1 + random.below(4));
+    // they are the lowest numbers there are, 0 among them, or the highest
+    let lowest = random.pick(&[0, u64::MAX - lots + 1]);
+    // some do little at a time, and sleep while others do whole calls
+    let paces: Vec<u64> = (0..=workers).map(|_| random.pick(&[3, 8, 14])).collect();
+    let mut events = Vec::new();
+    for at in 0..150 {
+        let worker = any_worker(&mut random, workers);
+        if random.once_in(2) {
+            let lot = lowest + random.below(lots);
+            // tickets rise; one from further back is refused if a higher one was accepted since
+            let ticket = if random.once_in(8) { at / 2 } else { at };
+            events.push(any_start(&mut random, worker, lot, ticket));
+        }
+        let turns = 1 + random.below(paces[worker as usize]) as usize;
+        events.push(Event::Turns(worker, turns));
+    }
+    Schedule {
+        workers,
+        buckets,
+        version,
+        events,
+    }
+}
+
+fn any_start(random: &mut Random, worker: u64, lot: u64, ticket: u32) -> Event {
+    match random.below(3) {
+        0 => Event::Look(worker, lot),
+        1 => Event::Insert(worker, lot, ticket),
+        _ => Event::Remove(worker, lot),
+    }
+}
+
+/// At times one more than there are, who is refused.
+fn any_worker(random: &mut Random, workers: u64) -> u64 {
+    let strangers = u64::from(random.once_in(8));
+    random.below(workers + strangers)
+}
