@@ -8,16 +8,33 @@ static unsigned long compared, histories;
 
 /* ---- what was met, so that nobody trusts a comparison of refusals alone */
 
-static const char *const call_names[CALLS] = {"open", "start look", "start insert", "start remove", "turn", "run", "show", "count"};
+static const char *const call_names[CALLS] = {"open", "start look", "start insert", "start remove", "turn", "run", "show", "count",
+    "orders"};
+
+enum { REFUSALS = DESK_NO_SMALL_CLASS + 1, NO_MORE = REFUSALS };
 
 /* the numbers that each call gives, 0 for a call that is accepted */
-static const char *const call_refusals[CALLS] = {"01", "01234", "012345", "01234", "012367", "0123679", "017", "017"};
+static const unsigned call_refusals[CALLS][REFUSALS + 1] = {
+    [OPEN] = {0, 1, NO_MORE},
+    [START_LOOK] = {0, 1, 2, 3, 4, NO_MORE},
+    [START_INSERT] = {0, 1, 2, 3, 4, 5, NO_MORE},
+    [START_REMOVE] = {0, 1, 2, 3, 4, NO_MORE},
+    [TURN] = {0, 1, 2, 3, 6, 7, NO_MORE},
+    [RUN] = {0, 1, 2, 3, 6, 7, 9, NO_MORE},
+    [SHOW] = {0, 1, 7, NO_MORE},
+    [COUNT] = {0, 1, 7, NO_MORE},
+    [ORDERS] = {0, 1, 3, 7, 10, NO_MORE},
+};
 
-static unsigned long met[CALLS][10], places[LAST_PLACE + 1], changes, lost, full;
+static unsigned long met[CALLS][REFUSALS], places[LAST_PLACE + 1], changes, lost, full;
 
 /* reports, of a turn or the last of a run: those of a bucket past the first, and those whose two words differ; and runs that were stopped,
    but not at once */
 static unsigned long elsewhere[CALLS], changed[CALLS], stopped_later;
+
+/* all orders that were walked, by how many workers were busy; their walks, and the swaps that these lost; and those of which one walk lost
+   more than one swap */
+static unsigned long classes[MOST_IN_CLASS + 1], finished, cut, lost_in_walks, lost_more;
 
 static bool missing(const char *what, unsigned number, unsigned long times) {
     if (times == 0) printf("never met: %s %u\n", what, number);
@@ -27,8 +44,8 @@ static bool missing(const char *what, unsigned number, unsigned long times) {
 bool met_everything(void) {
     bool lacks = false;
     for (size_t i = 0; i < CALLS; i++)
-        for (const char *digit = call_refusals[i]; *digit; digit++)
-            lacks |= missing(call_names[i], (unsigned)(*digit - '0'), met[i][*digit - '0']);
+        for (const unsigned *number = call_refusals[i]; *number != NO_MORE; number++)
+            lacks |= missing(call_names[i], *number, met[i][*number]);
     for (unsigned place = 1; place <= LAST_PLACE; place++) lacks |= missing("a turn at place", place, places[place]);
     lacks |= missing("changes in runs over", 0, changes);
     lacks |= missing("lost swaps in runs over", 0, lost);
@@ -38,8 +55,13 @@ bool met_everything(void) {
     lacks |= missing("turns that leave another mark word over", 0, changed[TURN]);
     lacks |= missing("last turns of runs that leave another mark word over", 0, changed[RUN]);
     lacks |= missing("turns done in a run that is stopped over", 0, stopped_later);
-    printf("%lu calls of %lu histories compared, with no difference; runs had %lu changes, %lu lost swaps, %lu full rounds\n", compared,
-        histories, changes, lost, full);
+    for (unsigned busy = 0; busy <= MOST_IN_CLASS; busy++) lacks |= missing("all orders where so many are busy:", busy, classes[busy]);
+    lacks |= missing("finished walks over", 0, finished);
+    lacks |= missing("cut walks over", 0, cut);
+    lacks |= missing("lost swaps in one walk over", 1, lost_more);
+    printf("%lu calls of %lu histories compared, with no difference; runs had %lu changes, %lu lost swaps, %lu full rounds; of all orders "
+           "%lu were finished and %lu cut, with %lu lost swaps\n",
+        compared, histories, changes, lost, full, finished, cut, lost_in_walks);
     return !lacks;
 }
 
@@ -61,6 +83,7 @@ static const char *const answer_names[CALLS][MOST_NUMBERS] = {
         "last before", "last after"},
     [SHOW] = {"refusal", "start", "words"},
     [COUNT] = {"refusal", "lots"},
+    [ORDERS] = {"refusal", "finished", "cut", "lost", "most"},
 };
 
 /* the caller passes the floor on that was handed back, so what is in the hall is also compared */
@@ -84,6 +107,10 @@ static answer of_count(desk_count_outcome c) {
     return (answer){{c.refusal, c.lots}};
 }
 
+static answer of_orders(desk_orders_outcome o) {
+    return (answer){{o.refusal, o.finished, o.cut, o.lost, o.most}};
+}
+
 static answer show(const side *s, const hall *h, uint64_t lot) {
     desk_part part = s->show(h->board, h->words, h->floor, lot);
     return (answer){{s->show_refusal(h->board, h->words, h->floor, lot), part.start, part.words}};
@@ -99,7 +126,8 @@ static answer make_on(const side *s, hall *h, const call *c) {
     case TURN: return of_turn(s->turn(h->board, h->words, h->records, h->listed, h->floor, c->worker));
     case RUN: return of_run(s->run(h->board, h->words, h->records, h->listed, h->floor, c->turns, c->count));
     case SHOW: return show(s, h, c->lot);
-    default: return of_count(s->count(h->board, h->words, h->floor));
+    case COUNT: return of_count(s->count(h->board, h->words, h->floor));
+    default: return of_orders(s->orders(h->board, h->words, h->records, h->listed, h->floor, c->depth));
     }
 }
 
@@ -148,8 +176,9 @@ static void stop_at_difference(const pair *p, const call *c) {
     if (differences == 0) return;
     const hall *h = &p->desk;
     printf("seed %lu, history %lu, call %lu: %s\n", the_seed, the_history, compared, call_names[c->which]);
-    printf("  on %lu words and %lu records; worker %#lx, lot %#lx, ticket %#x, %lu turns, plan of %#lx workers and %#lx buckets\n",
-        h->words, h->listed, c->worker, c->lot, c->ticket, c->count, c->plan.workers, c->plan.buckets);
+    printf("  on %lu words and %lu records; worker %#lx, lot %#lx, ticket %#x, %lu turns, depth %#lx, plan of %#lx workers and %#lx "
+           "buckets\n",
+        h->words, h->listed, c->worker, c->lot, c->ticket, c->count, c->depth, c->plan.workers, c->plan.buckets);
     fflush(0);
     exit(1);
 }
@@ -169,8 +198,17 @@ static void note_report(which w, const uint64_t *report) {
     changed[w] += report[5] != report[6];
 }
 
-static void note(const call *c, const answer *a, unsigned place) {
-    met[c->which][a->number[0] % 10]++;
+static void note_orders(const hall *h, const answer *a) {
+    if (a->number[0] == 0) classes[busy_workers(h)]++;
+    finished += a->number[1];
+    cut += a->number[2];
+    lost_in_walks += a->number[3];
+    lost_more += a->number[4] > 1;
+}
+
+static void note(const call *c, const hall *h, const answer *a, unsigned place) {
+    met[c->which][a->number[0] % REFUSALS]++;
+    if (c->which == ORDERS) note_orders(h, a);
     if (c->which == TURN) {
         if (a->number[0] == 0 && place <= LAST_PLACE) places[place]++;
         note_report(TURN, a->number + REPORT_OF_TURN);
@@ -188,9 +226,13 @@ uint8_t make(pair *p, const call *c) {
     unsigned place = c->worker < p->desk.listed ? p->desk.records[c->worker].place : 0;
     answer desk = make_on(&proved, &p->desk, c), plain = make_on(&by_hand, &p->plain, c);
     compare_answers(c->which, &desk, &plain);
+    if (c->which == ORDERS) {
+        answer fastest = make_on(&tuned, &p->plain, c);
+        compare_answers(c->which, &desk, &fastest);
+    }
     compare_halls(&p->desk, &p->plain);
     stop_at_difference(p, c);
     compared++;
-    note(c, &desk, place);
+    note(c, &p->desk, &desk, place);
     return (uint8_t)desk.number[0];
 }

@@ -4,7 +4,7 @@
 
 #include "side.h"
 
-typedef enum { OPEN, START_LOOK, START_INSERT, START_REMOVE, TURN, RUN, SHOW, COUNT, CALLS } which;
+typedef enum { OPEN, START_LOOK, START_INSERT, START_REMOVE, TURN, RUN, SHOW, COUNT, ORDERS, CALLS } which;
 
 /* each call takes of these what it needs */
 typedef struct {
@@ -15,6 +15,7 @@ typedef struct {
     uint32_t ticket;
     const uint8_t *turns;
     size_t count;
+    size_t depth;
 } call;
 
 /* a hall of the proved library's and one of the engine's by hand, which begin the same */

@@ -1,5 +1,5 @@
 /* Random histories, the same ones for the same seed: those of an opened board, which go deep; those of any board and any records, with
-   every kind of fault; every record, as far as its small fields go; and the longest runs. */
+   every kind of fault; every record, as far as its small fields go; the longest runs; and two short calls to every depth. */
 #include "histories.h"
 #include "compare.h"
 
@@ -52,6 +52,15 @@ static uint32_t next_ticket(chance *c, uint32_t last) {
     return last + 1 + (uint32_t)below(c, 3);
 }
 
+/* Of all orders no more than some four thousand turns are walked, whoever is busy; where more are busy than a small class has, any depth is
+   refused. Those that would be a depth if they were cut to 32 bits or to 8 are among the wrong ones. */
+static size_t some_depth(chance *c, const hall *h) {
+    static const size_t deepest[MOST_IN_CLASS + 1] = {MOST_DEPTH, MOST_DEPTH, 11, 7};
+    if (now_and_then(c, 8)) return ONE_OF(c, 0, MOST_DEPTH + 1, 0x101, 0x100000001, UINT64_MAX);
+    size_t busy = busy_workers(h);
+    return 1 + below(c, busy > MOST_IN_CLASS ? MOST_DEPTH : deepest[busy]);
+}
+
 /* ---- histories of an opened board */
 
 static desk_plan some_plan(chance *c) {
@@ -96,8 +105,9 @@ static void call_some(chance *c) {
     if (pick < 30) start_some(c);
     else if (pick < 65) turn_some(c);
     else if (pick < 90) run_some(c);
-    else if (pick < 95) make(&halls, &(call){.which = SHOW, .lot = some_lot(c, halls.desk.floor.buckets)});
-    else make(&halls, &(call){.which = COUNT});
+    else if (pick < 93) make(&halls, &(call){.which = SHOW, .lot = some_lot(c, halls.desk.floor.buckets)});
+    else if (pick < 96) make(&halls, &(call){.which = COUNT});
+    else make(&halls, &(call){.which = ORDERS, .depth = some_depth(c, &halls.desk)});
 }
 
 static void opened_history(chance *c, uint64_t seed, uint64_t history) {
@@ -200,7 +210,7 @@ static void spoil_sizes(chance *c, hall *h) {
 
 static call any_call(chance *c, const hall *h) {
     call made = {.turns = turns};
-    made.which = (which)ONE_OF(c, START_LOOK, START_INSERT, START_REMOVE, TURN, TURN, TURN, RUN, RUN, SHOW, COUNT);
+    made.which = (which)ONE_OF(c, START_LOOK, START_INSERT, START_REMOVE, TURN, TURN, TURN, RUN, RUN, SHOW, COUNT, ORDERS, ORDERS);
     if (now_and_then(c, 4)) made.which = OPEN;
     made.plan = (desk_plan){.workers = h->floor.workers, .buckets = h->floor.buckets, .version = some_version(c)};
     if (now_and_then(c, 50)) made.plan = some_plan(c);
@@ -208,6 +218,7 @@ static call any_call(chance *c, const hall *h) {
     made.lot = some_lot(c, h->floor.buckets);
     made.ticket = (uint32_t)ONE_OF(c, 0, h->floor.last, h->floor.last + 1, any(c));
     made.count = below(c, 12);
+    made.depth = some_depth(c, h);
     for (size_t i = 0; i < made.count; i++) turns[i] = (uint8_t)some_worker(c, h->floor.workers);
     if (now_and_then(c, 3)) made.count = ONE_OF(c, MOST_TURNS, MOST_TURNS + 1, ROOM_TURNS);
     return made;
@@ -223,13 +234,14 @@ static void wild_history(chance *c, uint64_t seed, uint64_t history) {
     }
 }
 
-/* ---- every record, as far as its small fields go: a turn, and then a start on the same */
+/* ---- every record, as far as its small fields go: all orders, a turn, and then a start on the same */
 
 static void try_record(chance *c, desk_worker w) {
     hall *h = &halls.desk;
     any_bucket(c, h->board, 1);
     for (size_t i = 0; i < h->words; i++) halls.plain.board[i] = h->board[i];
     h->records[0] = halls.plain.records[0] = w;
+    make(&halls, &(call){.which = ORDERS, .depth = some_depth(c, h)});
     make(&halls, &(call){.which = TURN, .worker = 0});
     h->records[0] = halls.plain.records[0] = w;
     make(&halls, &(call){.which = START_REMOVE, .worker = 0, .lot = 5});
@@ -270,13 +282,33 @@ static void longest_runs(chance *c, uint64_t seed, uint64_t history) {
     make(&halls, &(call){.which = RUN, .turns = turns, .count = MOST_TURNS});
 }
 
+/* ---- every depth and one past each end: two that look or remove, from their starts, so that the last depths finish every walk */
+
+static void every_depth(chance *c, uint64_t seed, uint64_t history) {
+    any_hall(c, &halls.desk);
+    hall *h = &halls.desk;
+    h->floor = (desk_floor){.workers = 2, .buckets = 1, .last = 9};
+    h->words = BUCKET_WORDS;
+    h->listed = 2;
+    h->board[0] = 0x0000000100000000, h->board[1] = 7, h->board[4] = 9, h->board[7] = 0;
+    begin(&halls, seed, history);
+    for (uint64_t kinds = 0; kinds < 4; kinds++) {
+        for (size_t i = 0; i < 2; i++)
+            h->records[i] = kinds >> i & 1 ? (desk_worker){.kind = LOOK, .place = 2, .key = 8, .held = HOLDS_NONE}
+                                           : (desk_worker){.kind = REMOVE, .place = 1, .key = 7, .held = HOLDS_NONE};
+        for (size_t i = 0; i < 2; i++) halls.plain.records[i] = h->records[i];
+        for (size_t depth = 0; depth <= MOST_DEPTH + 1; depth++) make(&halls, &(call){.which = ORDERS, .depth = depth});
+    }
+}
+
 bool compare_histories(uint64_t seed) {
-    for (uint64_t history = 0; history < OPENED_HISTORIES + WILD_HISTORIES + 2; history++) {
+    for (uint64_t history = 0; history < OPENED_HISTORIES + WILD_HISTORIES + 3; history++) {
         chance c = {.state = seed * 0x100000000 + history};
         if (history < OPENED_HISTORIES) opened_history(&c, seed, history);
         else if (history < OPENED_HISTORIES + WILD_HISTORIES) wild_history(&c, seed, history);
         else if (history == OPENED_HISTORIES + WILD_HISTORIES) every_record(&c, seed, history);
-        else longest_runs(&c, seed, history);
+        else if (history == OPENED_HISTORIES + WILD_HISTORIES + 1) longest_runs(&c, seed, history);
+        else every_depth(&c, seed, history);
     }
     return met_everything();
 }

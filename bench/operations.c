@@ -100,11 +100,28 @@ static void mixed_scenes(stage *g, size_t buckets, size_t workers) {
     }
 }
 
+/* An empty bucket, and each worker is to insert lot 7. Two of them need the depth to meet at a swap; three have many orders before that. */
+static void inserts(stage *g, size_t buckets, size_t workers) {
+    hall *h = &g->scenes[0].first;
+    fill_board(h, buckets, 0);
+    send_idle(h, workers);
+    for (size_t i = 0; i < workers; i++) start(h, i, INSERT, 7);
+    if (g->brief) g->scenes[0].depth = workers > 2 ? 7 : 11;
+    else g->scenes[0].depth = workers > 2 ? 12 : 20;
+}
+
+/* the same, but the last worker is to remove it */
+static void inserts_and_remove(stage *g, size_t buckets, size_t workers) {
+    inserts(g, buckets, workers);
+    start(&g->scenes[0].first, workers - 1, REMOVE, 7);
+}
+
 void reset(stage *g) {
     memcpy(&g->now, &g->scenes[0].first, sizeof g->now);
 }
 
-void prepare(const operation *o, stage *g, size_t buckets, size_t workers) {
+void prepare(const operation *o, stage *g, size_t buckets, size_t workers, bool brief) {
+    g->brief = brief;
     o->prepare(g, buckets, workers);
     reset(g);
 }
@@ -192,6 +209,13 @@ static void repeat_count(const side *s, stage *g, size_t repeats) {
         if (s->count) s->count(h->board, h->words, h->floor);
 }
 
+static void repeat_orders(const side *s, stage *g, size_t repeats) {
+    const hall *h = &g->now;
+    size_t depth = g->scenes[0].depth;
+    for (; repeats > 0; repeats--)
+        if (s->orders) s->orders(h->board, h->words, h->records, h->listed, h->floor, depth);
+}
+
 /* ---- the list of them */
 
 static size_t one(const stage *g) {
@@ -207,17 +231,44 @@ static size_t turns_of_scenes(const stage *g) {
     return g->scenes[0].count + g->scenes[1].count + g->scenes[2].count;
 }
 
+typedef struct {
+    uint64_t board[BUCKET_WORDS];
+    desk_worker records[MOST_IN_CLASS];
+} small_class;
+
+/* the engine by hand says where a turn leads, but nothing of its walks is taken for this */
+static size_t turns_from(const small_class *from, desk_floor floor, size_t left) {
+    size_t turns = 0;
+    for (size_t i = 0; i < floor.workers && left > 0; i++) {
+        if (from->records[i].kind == IDLE) continue;
+        small_class next = *from;
+        by_hand.turn(next.board, BUCKET_WORDS, next.records, floor.workers, floor, i);
+        turns += 1 + turns_from(&next, floor, left - 1);
+    }
+    return turns;
+}
+
+static size_t turns_walked(const stage *g) {
+    const hall *h = &g->scenes[0].first;
+    small_class outset;
+    memcpy(outset.board, h->board, sizeof outset.board);
+    memcpy(outset.records, h->records, sizeof outset.records);
+    return turns_from(&outset, h->floor, g->scenes[0].depth);
+}
+
 const operation operations[OPERATIONS] = {
-    {"long-run", "turn", full_scene, repeat_run, turns_of_run, 1, true},
-    {"shuffled-run", "turn", shuffled_scene, repeat_run, turns_of_run, 1, true},
-    {"mixed-run", "turn", mixed_scenes, repeat_mixed, turns_of_scenes, 1, true},
-    {"short-run", "turn", short_scene, repeat_run, turns_of_run, 40, true},
-    {"turn", "call", full_scene, repeat_turn, one, WHOLE_ROUNDS, true},
-    {"start-look", "call", idle_scene, repeat_start_look, one, 64, false},
-    {"start-insert", "call", idle_scene, repeat_start_insert, one, 64, false},
-    {"start-remove", "call", idle_scene, repeat_start_remove, one, 64, false},
-    {"open", "call", idle_scene, repeat_open, one, 8, false},
-    {"empty-run", "call", idle_scene, repeat_run, one, 64, false},
-    {"count", "call", idle_scene, repeat_count, one, 8, false},
-    {"show", "call", idle_scene, repeat_show, one, 64, false},
+    {"long-run", "turn", full_scene, repeat_run, turns_of_run, 1, EVERY_SIZE},
+    {"shuffled-run", "turn", shuffled_scene, repeat_run, turns_of_run, 1, EVERY_SIZE},
+    {"mixed-run", "turn", mixed_scenes, repeat_mixed, turns_of_scenes, 1, EVERY_SIZE},
+    {"short-run", "turn", short_scene, repeat_run, turns_of_run, 40, EVERY_SIZE},
+    {"turn", "call", full_scene, repeat_turn, one, WHOLE_ROUNDS, EVERY_SIZE},
+    {"start-look", "call", idle_scene, repeat_start_look, one, 64, THREE_SIZES},
+    {"start-insert", "call", idle_scene, repeat_start_insert, one, 64, THREE_SIZES},
+    {"start-remove", "call", idle_scene, repeat_start_remove, one, 64, THREE_SIZES},
+    {"open", "call", idle_scene, repeat_open, one, 8, THREE_SIZES},
+    {"empty-run", "call", idle_scene, repeat_run, one, 64, THREE_SIZES},
+    {"count", "call", idle_scene, repeat_count, one, 8, THREE_SIZES},
+    {"show", "call", idle_scene, repeat_show, one, 64, THREE_SIZES},
+    {"orders-insert", "turn", inserts, repeat_orders, turns_walked, 1, SMALL_CLASSES},
+    {"orders-remove", "turn", inserts_and_remove, repeat_orders, turns_walked, 1, SMALL_CLASSES},
 };

@@ -7,37 +7,43 @@
 /* An insert on a full bucket goes round in ten turns: with any number of workers here, so many turns leave each where it stood. */
 enum { WHOLE_ROUNDS = 10 * MOST_WORKERS, LONG_RUN = 6 * WHOLE_ROUNDS, SHORT_RUN = 8, SCENES = 3 };
 
-/* a hall as it stands before, and a run of turns on it */
+/* a hall as it stands before, and a run of turns on it, or the depth to which its orders are walked */
 typedef struct {
     hall first;
     uint8_t turns[LONG_RUN];
     size_t count;
+    size_t depth;
 } scene;
 
 /* most operations play in the first scene only */
 typedef struct {
     scene scenes[SCENES];
     hall now;
+    /* for counting instructions, which can take long: all orders go to a lesser depth, which tells the same within 2 in a hundred */
+    bool brief;
 } stage;
+
+/* for which N and W an operation is measured: for every N with every W; for the least, the middle and the greatest of both together; for
+   one bucket with two workers and with three */
+typedef enum { EVERY_SIZE, THREE_SIZES, SMALL_CLASSES } sizes;
 
 typedef struct {
     const char *name;
     const char *unit;
     void (*prepare)(stage *, size_t buckets, size_t workers);
     void (*repeat)(const side *, stage *, size_t repeats);
-    /* how many units one repetition comes to */
+    /* how many units one repetition comes to; for all orders it walks them */
     size_t (*units)(const stage *);
     /* how many repetitions to count instructions over: few, but as many as leave every worker where it stood */
     size_t repeats;
-    /* whether it is measured for every N with every W, or only for the least, the middle and the greatest of both together */
-    bool every_size;
+    sizes sizes;
 } operation;
 
-enum { OPERATIONS = 12 };
+enum { OPERATIONS = 14 };
 extern const operation operations[OPERATIONS];
 
 /* sets a stage up for an operation, and puts it back where that left it before */
-void prepare(const operation *, stage *, size_t buckets, size_t workers);
+void prepare(const operation *, stage *, size_t buckets, size_t workers, bool brief);
 void reset(stage *);
 
 #endif

@@ -24,4 +24,9 @@ uint8_t plain_show_refusal(const uint64_t *board, size_t words, desk_floor floor
 
 desk_count_outcome plain_count(const uint64_t *board, size_t words, desk_floor floor);
 
+desk_orders_outcome plain_orders(const uint64_t *board, size_t words, const desk_worker *records, size_t listed, desk_floor floor,
+    size_t depth);
+desk_orders_outcome tuned_orders(const uint64_t *board, size_t words, const desk_worker *records, size_t listed, desk_floor floor,
+    size_t depth);
+
 #endif

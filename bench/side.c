@@ -12,6 +12,7 @@ const side proved = {
     .show = desk_show,
     .show_refusal = desk_show_refusal,
     .count = desk_count,
+    .orders = desk_orders,
 };
 
 const side by_hand = {
@@ -25,6 +26,9 @@ const side by_hand = {
     .show = plain_show,
     .show_refusal = plain_show_refusal,
     .count = plain_count,
+    .orders = plain_orders,
 };
+
+const side tuned = {.name = "tuned", .orders = tuned_orders};
 
 const side nobody = {.name = "nobody"};

@@ -15,13 +15,16 @@ typedef struct {
     desk_part (*show)(const uint64_t *, size_t, desk_floor, uint64_t);
     uint8_t (*show_refusal)(const uint64_t *, size_t, desk_floor, uint64_t);
     desk_count_outcome (*count)(const uint64_t *, size_t, desk_floor);
+    desk_orders_outcome (*orders)(const uint64_t *, size_t, const desk_worker *, size_t, desk_floor, size_t);
 } side;
 
-/* the proved library; the one written by hand; and one with no calls, for what the caller's own loop takes */
-extern const side proved, by_hand, nobody;
+/* the proved library; the one written by hand; all orders by hand in the form that was found to be the fastest, with no other call; and one
+   with no calls, for what the caller's own loop takes */
+extern const side proved, by_hand, tuned, nobody;
 
 enum { MOST_WORKERS = 64, MOST_BUCKETS = 256, MOST_TURNS = 65535, BUCKET_WORDS = 8, SLOTS = 3, LAST_PLACE = 13 };
 enum { IDLE = 0, LOOK = 1, INSERT = 2, REMOVE = 3, HOLDS_NONE = 3 };
+enum { MOST_IN_CLASS = 3, MOST_DEPTH = 24 };
 
 /* what stands past the end of what is lent must stay, so there is room for more than the rules allow */
 enum { SPARE_WORDS = 8, SPARE_RECORDS = 2, ROOM_WORDS = BUCKET_WORDS * (MOST_BUCKETS + 2), ROOM_RECORDS = MOST_WORKERS + 4 };
@@ -34,6 +37,12 @@ typedef struct {
     size_t listed;
     desk_floor floor;
 } hall;
+
+static inline size_t busy_workers(const hall *h) {
+    size_t busy = 0;
+    for (size_t i = 0; i < h->listed; i++) busy += h->records[i].kind != IDLE;
+    return busy;
+}
 
 /* numbers that look random and are the same each time (Steele, Lea and Flood's SplitMix) */
 typedef struct {

@@ -13,8 +13,9 @@
    floor of its own and use them while others use theirs; one board with its list belongs to one thread at a time. Workers are no threads:
    which of them moves is what the caller says, turn by turn.
 
-   What each function leaves and answers is promised in crates/floor/src/lib.rt, and proved. Nothing checks the declarations below
-   against that file but the programs of tests/c, which see each size, each offset and each field arrive. */
+   What each function leaves and answers is promised in crates/floor/src/lib.rt, that of desk_orders in crates/walks/src/lib.rt, and proved.
+   Nothing checks the declarations below against these files but the programs of tests/c, which see each size, each offset and each field
+   arrive. Each of the two crates is an archive: libfloor.a has all functions but desk_orders, libwalks.a has that one. */
 #ifndef DESK_H
 #define DESK_H
 
@@ -35,6 +36,8 @@ enum {
     DESK_MOST_WORKERS = 64,  /* of workers and buckets there is at least one */
     DESK_MOST_BUCKETS = 256,
     DESK_MOST_TURNS = 65535, /* of one run; none at all is a run too */
+    DESK_MOST_IN_CLASS = 3,  /* workers of a small class, which has one bucket: see desk_orders */
+    DESK_MOST_DEPTH = 24,    /* turns of one of its walks; the least is 1 */
     DESK_BUCKET_WORDS = 8,   /* see "the board" below, also for the places in a bucket */
     DESK_SLOTS = 3,          /* of a bucket */
     DESK_NO_SLOT = 3,        /* the number that stands where there is no slot, as in `held` */
@@ -45,23 +48,26 @@ enum {
 };
 
 /* What a call answers: done, or the number by which it is refused. Of two reasons the one that the call looks at first is told: the
-   sizes, then a run's length, the worker's number, its record, whether it is busy, the ticket, the bucket. */
+   sizes, then a run's length or whether a class is small, the worker's number, its record, whether it is busy, the ticket, the bucket. */
 enum {
     DESK_DONE = 0,
-    DESK_WRONG_SIZES = 1,   /* too few or too many workers or buckets, the board not eight words for each bucket, or the list not one
-                               record for each worker (which a show and a count are not given) */
-    DESK_NO_WORKER = 2,     /* workers are counted from 0, and the number is past the last */
-    DESK_BROKEN_RECORD = 3, /* in the worker's record kind, place, ticket, held, slot and word do not go together: there is no such kind;
-                               it is idle, and not desk_idle_record() in every field; its kind of call never comes to that place; an
-                               insert has no ticket, or another call has one; a slot is held where none can be, or none where one must
-                               be; the slot is past the last; a look has a word, or another call one that is no mark word */
-    DESK_BUSY_WORKER = 4,   /* a start for a worker whose last call has not ended */
-    DESK_SPENT_TICKET = 5,  /* an insert's ticket has to be greater than all before it; so 0 never is a ticket */
-    DESK_IDLE_WORKER = 6,   /* a turn for a worker that has no call */
-    DESK_BROKEN_BUCKET = 7, /* the lot's bucket has a mark over 2, something above the marks, or a spare word that is not 0. For a
-                               count it can be any bucket */
-    DESK_MALFORMED = 8,     /* a sheet that cannot be read: the number is the rostrum's, and no call here gives it */
-    DESK_TOO_LONG = 9       /* a run of more than DESK_MOST_TURNS */
+    DESK_WRONG_SIZES = 1,    /* too few or too many workers or buckets, the board not eight words for each bucket, or the list not one
+                                record for each worker (which a show and a count are not given) */
+    DESK_NO_WORKER = 2,      /* workers are counted from 0, and the number is past the last */
+    DESK_BROKEN_RECORD = 3,  /* in the worker's record kind, place, ticket, held, slot and word do not go together: there is no such kind;
+                                it is idle, and not desk_idle_record() in every field; its kind of call never comes to that place; an
+                                insert has no ticket, or another call has one; a slot is held where none can be, or none where one must
+                                be; the slot is past the last; a look has a word, or another call one that is no mark word. For all
+                                orders it can be any worker's record */
+    DESK_BUSY_WORKER = 4,    /* a start for a worker whose last call has not ended */
+    DESK_SPENT_TICKET = 5,   /* an insert's ticket has to be greater than all before it; so 0 never is a ticket */
+    DESK_IDLE_WORKER = 6,    /* a turn for a worker that has no call */
+    DESK_BROKEN_BUCKET = 7,  /* the lot's bucket has a mark over 2, something above the marks, or a spare word that is not 0. For a
+                                count it can be any bucket; for all orders it is the only one, also where nobody is busy */
+    DESK_MALFORMED = 8,      /* a sheet that cannot be read: the number is the rostrum's, and no call here gives it */
+    DESK_TOO_LONG = 9,       /* a run of more than DESK_MOST_TURNS */
+    DESK_NO_SMALL_CLASS = 10 /* all orders, of more than one bucket, of more than DESK_MOST_IN_CLASS workers, or to a depth of 0 or of
+                                more than DESK_MOST_DEPTH */
 };
 
 /* What a worker is at: `kind` in its record. */
@@ -190,6 +196,15 @@ typedef struct {
     uint8_t refusal; /* DESK_DONE, or why it is refused */
 } desk_count_outcome;
 
+/* What all orders come to; where they are refused, all four counts are 0. */
+typedef struct {
+    uint64_t finished; /* walks, after which nobody is busy */
+    uint64_t cut;      /* walks, after which somebody still is: the depth is used up */
+    uint64_t lost;     /* swaps, in all walks together, the cut ones too */
+    uint64_t most;     /* swaps that were lost in one walk, in whichever they were most */
+    uint8_t refusal;   /* DESK_DONE, or why it is refused */
+} desk_orders_outcome;
+
 /* ---- the functions. `words` is how many words the board has, `listed` how many records the list has. */
 
 #ifdef __cplusplus
@@ -229,6 +244,24 @@ uint8_t desk_show_refusal(const uint64_t *board, size_t words, desk_floor floor,
 /* Counts the lots on the board, which are the slots whose mark is valid. One that is being inserted counts from its commit on, and a
    show of its bucket has it before that. */
 desk_count_outcome desk_count(const uint64_t *board, size_t words, desk_floor floor);
+
+/* Walks every order in which the workers of a small class can have their turns, each order once, where a run is given one of them, and tells
+   what the walks come to together. A small class has one bucket and DESK_MOST_IN_CLASS workers at most, each of whom is idle or anywhere
+   in a call. A walk begins with the board and the records as they are lent, and each turn of it is for a worker that is busy then. It is
+   finished when nobody is busy any more, and cut if it has had `depth` turns before that. Where nobody is busy to begin with there is one
+   walk, with no turn in it, and it is finished.
+
+   Walks are made on copies: board, list and floor are left as they were, so there is no floor to pass on.
+
+   No order is left out for leading where another led, and nothing is kept of what was met. So the time grows with the number of orders: each
+   turn more can double them where two are busy, and treble them where three are, which makes 3^depth at most. Three inserts of one lot have
+   531,438 orders to depth 12, which takes milliseconds, and 226,534,778,838 to depth 24, which takes an hour or so; two inserts of one lot
+   have 2,199,430 to depth 24.
+
+   It is refused by DESK_WRONG_SIZES, DESK_NO_SMALL_CLASS, DESK_BROKEN_RECORD and DESK_BROKEN_BUCKET, which are looked at in this order, the
+   records from the first worker's on. */
+desk_orders_outcome desk_orders(const uint64_t *board, size_t words, const desk_worker *records, size_t listed, desk_floor floor,
+    size_t depth);
 
 #ifdef __cplusplus
 }

@@ -4,6 +4,7 @@
 
 export DESK_ARCHIVE=${DESK_ARCHIVE:+$(readlink -f "$DESK_ARCHIVE")}
 export MARK_ARCHIVE=${MARK_ARCHIVE:+$(readlink -f "$MARK_ARCHIVE")}
+export WALKS_ARCHIVE=${WALKS_ARCHIVE:+$(readlink -f "$WALKS_ARCHIVE")}
 
 # sets `tools`, the kit's programs for this machine; `libc`, its C library, for x86-64; and `emulator`, which runs x86-64 programs where
 # this machine is another, and is empty where it is not. The word is the name of the script, for what it says.
@@ -36,11 +37,12 @@ built_since() {
 }
 
 # prints where the archive of a crate is; it is proved and built first where it is not there, or is older than its sources.
-# DESK_ARCHIVE names one for floor that is taken as it is, and MARK_ARCHIVE one for mark.
+# DESK_ARCHIVE names one for floor that is taken as it is, WALKS_ARCHIVE one for walks, which has all orders, and MARK_ARCHIVE one for mark.
 archive_of() {
   local crate=$1 archive=$here/target/staticlib/lib$1.a given='' began said
   case $crate in
   floor) given=$DESK_ARCHIVE ;;
+  walks) given=$WALKS_ARCHIVE ;;
   mark) given=$MARK_ARCHIVE ;;
   esac
   if [ -n "$given" ]; then

@@ -1,7 +1,7 @@
 #include "hall.h"
 
 hall one, two, before;
-static hall singly;
+static hall singly, unwalked;
 uint8_t many[ROOM_FOR_TURNS];
 const desk_report refused_report = {.action = DESK_NONE}, no_turn = {.action = DESK_READ};
 
@@ -98,4 +98,15 @@ desk_run_outcome run(hall *h, const uint8_t *turns, size_t count) {
 
 bool counts(desk_run_outcome r, uint32_t turns, uint32_t changes, uint32_t lost, uint32_t full, uint8_t stop) {
     return r.totals.turns == turns && r.totals.changes == changes && r.totals.lost == lost && r.totals.full == full && r.stop == stop;
+}
+
+desk_orders_outcome orders(const hall *h, size_t depth) {
+    copy_hall(&unwalked, h);
+    desk_orders_outcome o = desk_orders(h->board, h->words, h->records, h->listed, h->floor, depth);
+    CHECK(same_hall(h, &unwalked));
+    return o;
+}
+
+bool walked(desk_orders_outcome o, uint64_t finished, uint64_t cut, uint64_t lost, uint64_t most) {
+    return o.refusal == DESK_DONE && o.finished == finished && o.cut == cut && o.lost == lost && o.most == most;
 }

@@ -182,6 +182,11 @@ static void count_outcome(desk_count_outcome c) {
     printf("count %x %lx", c.refusal, c.lots);
 }
 
+static void orders_outcome(desk_orders_outcome o) {
+    printf("orders %x %lx %lx %lx %lx", o.refusal, o.finished, o.cut, o.lost, o.most);
+}
+
+/* the number of the worker is the depth, where all orders are asked for */
 static void call(unsigned which, uint64_t worker, uint64_t lot, uint32_t ticket) {
     switch (which) {
     case 0: outcome("open", desk_open_floor(board, words, records, listed, floor, (desk_plan){worker, lot, ticket})); break;
@@ -191,7 +196,8 @@ static void call(unsigned which, uint64_t worker, uint64_t lot, uint32_t ticket)
     case 4: turn_outcome(desk_turn(board, words, records, listed, floor, worker)); break;
     case 5: run_outcome(desk_run(board, words, records, listed, floor, turns, count)); break;
     case 6: show_outcome(lot); break;
-    default: count_outcome(desk_count(board, words, floor)); break;
+    case 7: count_outcome(desk_count(board, words, floor)); break;
+    default: orders_outcome(desk_orders(board, words, records, listed, floor, worker)); break;
     }
 }
 
@@ -200,7 +206,7 @@ int main(void) {
     while (fread(head, 1, 2, stdin) == 2) {
         length = fread(body, 1, (size_t)head[0] << 8 | head[1], stdin);
         next = 0;
-        unsigned which = (unsigned)byte() % 8;
+        unsigned which = (unsigned)byte() % 9;
         floor.workers = number();
         floor.buckets = number();
         floor.last = (uint32_t)number();

@@ -34,6 +34,12 @@ static uint8_t refused_count(void) {
     return c.refusal;
 }
 
+static uint8_t refused_orders(size_t depth) {
+    desk_orders_outcome o = orders(&one, depth);
+    CHECK(o.finished == 0 && o.cut == 0 && o.lost == 0 && o.most == 0);
+    return o.refusal;
+}
+
 /* 1, where the sizes do not fit together: each call that takes the list, and each that takes the board alone */
 static void all_give_1(bool board_too) {
     uint8_t first = 0;
@@ -43,6 +49,8 @@ static void all_give_1(bool board_too) {
     REFUSED(DESK_WRONG_SIZES, refused_turn(0));
     REFUSED(DESK_WRONG_SIZES, refused_run(&first, 1));
     REFUSED(DESK_WRONG_SIZES, refused_run(many, ROOM_FOR_TURNS));
+    REFUSED(DESK_WRONG_SIZES, refused_orders(1));
+    REFUSED(DESK_WRONG_SIZES, refused_orders(0));
     if (board_too) {
         REFUSED(DESK_WRONG_SIZES, refused_show(7));
         REFUSED(DESK_WRONG_SIZES, refused_count());
@@ -148,6 +156,109 @@ static void test_buckets(void) {
     REFUSED(DESK_BROKEN_BUCKET, refused_count());
 }
 
+/* ---- all orders: 10 by each cause alone and both ends of each range; a broken record of whichever worker; the bucket, also where nobody is
+   busy; and which comes first */
+
+static bool accepted_orders(size_t depth) {
+    return orders(&one, depth).refusal == DESK_DONE;
+}
+
+static void test_small_class(void) {
+    static const size_t no_depth[] = {0, 25, 256, 257, 4294967296u, 4294967297u, SIZE_MAX};
+    for (size_t workers = 1; workers <= 3; workers++) {
+        opened(&one, workers, 1, 9);
+        CHECK(start_look(&one, workers - 1, 7) == DESK_DONE);
+        CHECK(accepted_orders(1) && accepted_orders(24));
+        for (size_t i = 0; i < sizeof no_depth / sizeof no_depth[0]; i++) REFUSED(DESK_NO_SMALL_CLASS, refused_orders(no_depth[i]));
+    }
+    static const size_t too_many_workers[] = {4, 5, 64}, too_many_buckets[] = {2, 3, 256};
+    for (unsigned i = 0; i < 3; i++) {
+        opened(&one, too_many_workers[i], 1, 9);
+        REFUSED(DESK_NO_SMALL_CLASS, refused_orders(1));
+        opened(&one, 1, too_many_buckets[i], 9);
+        REFUSED(DESK_NO_SMALL_CLASS, refused_orders(1));
+        opened(&one, too_many_workers[i], too_many_buckets[i], 9);
+        REFUSED(DESK_NO_SMALL_CLASS, refused_orders(0));
+    }
+}
+
+/* what makes a record broken, one thing in each; the others of the class are sound, or idle */
+static void test_broken_in_class(void) {
+    uint64_t no_mark_word = 3ull << 40;
+    const desk_worker broken[] = {
+        {.kind = 4, .place = 2, .held = 3},
+        {.held = 0},
+        {.held = 3, .seen = 1},
+        {.kind = DESK_LOOK, .place = 1, .held = 3},
+        {.kind = DESK_LOOK, .place = 6, .held = 3},
+        {.kind = DESK_LOOK, .place = 2, .slot = 3, .held = 3},
+        {.kind = DESK_LOOK, .place = 2, .held = 3, .ticket = 1},
+        {.kind = DESK_LOOK, .place = 2, .held = 3, .word = 1},
+        {.kind = DESK_LOOK, .place = 2, .held = 2},
+        {.kind = DESK_INSERT, .place = 11, .held = 2, .ticket = 1},
+        {.kind = DESK_INSERT, .place = 1, .held = 3},
+        {.kind = DESK_INSERT, .place = 6, .held = 0, .ticket = 1},
+        {.kind = DESK_INSERT, .place = 7, .held = 3, .ticket = 1},
+        {.kind = DESK_INSERT, .place = 1, .held = 4, .ticket = 1},
+        {.kind = DESK_INSERT, .place = 1, .held = 3, .ticket = 1, .word = no_mark_word},
+        {.kind = DESK_REMOVE, .place = 10, .held = 3},
+        {.kind = DESK_REMOVE, .place = 14, .held = 3},
+        {.kind = DESK_REMOVE, .place = 13, .held = 3, .ticket = 1},
+        {.kind = DESK_REMOVE, .place = 13, .held = 1},
+        {.kind = DESK_REMOVE, .place = 13, .held = 3, .word = 1ull << 56},
+    };
+    for (size_t i = 0; i < sizeof broken / sizeof broken[0]; i++)
+        for (size_t worker = 0; worker < 3; worker++) {
+            opened(&one, 3, 1, 9);
+            CHECK(start_insert(&one, (worker + 1) % 3, 7, 1) == DESK_DONE && accepted_orders(2));
+            one.records[worker] = broken[i];
+            REFUSED(DESK_BROKEN_RECORD, refused_orders(1));
+        }
+}
+
+static void test_broken_bucket_of_class(void) {
+    static const uint64_t words[] = {3ull << 32, 4ull << 40, 255ull << 48, 1ull << 56, 1ull << 63};
+    opened(&one, 2, 1, 9);
+    for (unsigned busy = 0; busy < 2; busy++) {
+        for (size_t i = 0; i < sizeof words / sizeof words[0]; i++) {
+            one.board[DESK_AT_MARK] = words[i];
+            REFUSED(DESK_BROKEN_BUCKET, refused_orders(24));
+        }
+        one.board[DESK_AT_MARK] = 0x0002010000000009u;
+        one.board[DESK_AT_SPARE] = 1ull << 63;
+        REFUSED(DESK_BROKEN_BUCKET, refused_orders(24));
+        one.board[DESK_AT_SPARE] = 0;
+        CHECK(accepted_orders(24));
+        CHECK(busy > 0 || start_remove(&one, 1, 7) == DESK_DONE);
+    }
+}
+
+/* everything is wrong, and then one thing less after another */
+static void test_order_in_class(void) {
+    opened(&one, 3, 1, 9);
+    one.board[DESK_AT_SPARE] = 1;
+    one.records[2].place = 14;
+    one.listed = 2;
+    REFUSED(DESK_WRONG_SIZES, refused_orders(25));
+    one.listed = 3;
+    REFUSED(DESK_NO_SMALL_CLASS, refused_orders(25));
+    REFUSED(DESK_BROKEN_RECORD, refused_orders(24));
+    one.records[2].place = 0;
+    REFUSED(DESK_BROKEN_BUCKET, refused_orders(24));
+    one.board[DESK_AT_SPARE] = 0;
+    CHECK(accepted_orders(24));
+    /* 10 before 3 and before 7 by each of its other causes, with the rest as it should be */
+    opened(&one, 4, 1, 9);
+    one.records[0].place = 14;
+    REFUSED(DESK_NO_SMALL_CLASS, refused_orders(1));
+    opened(&one, 3, 2, 9);
+    one.records[0].place = 14;
+    REFUSED(DESK_NO_SMALL_CLASS, refused_orders(1));
+    opened(&one, 3, 2, 9);
+    one.board[DESK_AT_SPARE] = 1;
+    REFUSED(DESK_NO_SMALL_CLASS, refused_orders(1));
+}
+
 /* a run whose ninth turn of twenty is refused by `number` has done eight, keeps the report of the eighth and tells that number */
 static void stops(uint8_t number, uint8_t ninth) {
     static const desk_report claim = {.before = 9, .after = 8589934601u, .bucket = 1, .action = DESK_WON};
@@ -197,6 +308,9 @@ static void test_nothing(void) {
     CHECK(r.stop == DESK_WRONG_SIZES && same_report(r.last, no_turn));
     CHECK(desk_show_refusal(NULL, 0, none, 7) == DESK_WRONG_SIZES);
     CHECK(desk_count(NULL, 0, none).refusal == DESK_WRONG_SIZES);
+    CHECK(desk_orders(NULL, 0, NULL, 0, none, 1).refusal == DESK_WRONG_SIZES);
+    CHECK(desk_orders(NULL, 0, one.records, 2, one.floor, 1).refusal == DESK_WRONG_SIZES);
+    CHECK(desk_orders(one.board, 8, NULL, 0, one.floor, 1).refusal == DESK_WRONG_SIZES);
 }
 
 void test_refusals(void) {
@@ -205,6 +319,10 @@ void test_refusals(void) {
     test_records();
     test_calls();
     test_buckets();
+    test_small_class();
+    test_broken_in_class();
+    test_broken_bucket_of_class();
+    test_order_in_class();
     test_stops();
     test_nothing();
 }

@@ -8,8 +8,9 @@ use native.Mathlib.Omega.{arith}
 use lib.ListN.{length}
 use Rattle.history.specs.Trace.{Entry}
 use Rattle.clerk.specs.Calls.{EndedCall, IsCallOf}
-use Rattle.clerk.specs.Sequence.{Each, Has, Ordered, Placed, DoneAt, Precedes}
-use Rattle.clerk.proofs.Lists.{each-both, each-then, each-in, each-has, ordered-then}
+use Rattle.walks.specs.Lists.{Each, Has, Ordered}
+use Rattle.clerk.specs.Sequence.{Placed, DoneAt, Precedes}
+use Rattle.walks.proofs.Lists.{each-both, each-then, each-in, each-has, ordered-then}
 use Rattle.clerk.proofs.Enumerated.{callsOf, each-is-call, call-counted, one-after-another, ends-within, first-before-last}
 use Rattle.clerk.proofs.Moments.{momentOf, atMoment, MomentFound, done-at}
 use Rattle.clerk.proofs.Sorted.{placedFrom, Among, Follows, from-each, from-has, from-ordered}

@@ -12,8 +12,8 @@ use Rattle.history.specs.Trace.{Entry, None}
 use Rattle.history.specs.InCall.{AtRest, InCall}
 use Rattle.history.proofs.InCalls.{every-turn-in-call}
 use Rattle.clerk.specs.Calls.{EndedCall, IsCallOf, BeginsWith, asks}
-use Rattle.clerk.specs.Sequence.{Each, In, Ordered}
-use Rattle.clerk.proofs.Lists.{each-append, has-right, ordered-append, ordered-in}
+use Rattle.walks.specs.Lists.{Each, In, Ordered}
+use Rattle.walks.proofs.Lists.{each-append, has-right, ordered-append, ordered-in}
 use Rattle.clerk.proofs.Rests.{OwnEnd, rest-on, awaits}
 use Rattle.clerk.proofs.Since.{firstOr, since, first-since, call-first}
 

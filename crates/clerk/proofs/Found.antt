@@ -20,7 +20,7 @@ use Rattle.history.proofs.Steps.{Begins, Turns, stepOf}
 use Rattle.history.proofs.Written.{stores-at, store-writes}
 use Rattle.history.proofs.Cells.{Known, value-same, key-same}
 use Rattle.clerk.specs.Does.{line}
-use Rattle.clerk.specs.Sequence.{In}
+use Rattle.walks.specs.Lists.{In}
 use Rattle.clerk.proofs.Rows.{Rows, silent, rowAt, _▹_, among-first, Follow, follow}
 use Rattle.clerk.proofs.Leads.{Leads, reads-leads}
 use Rattle.clerk.proofs.Leads as leads

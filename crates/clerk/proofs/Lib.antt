@@ -42,5 +42,4 @@ pub mod OneByOne
 -- the list, and tools
 pub mod ListAfter
 pub mod Listed
-pub mod Lists
 pub mod Counts

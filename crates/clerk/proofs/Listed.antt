@@ -13,8 +13,8 @@ use Rattle.mark.proofs.Choices.{not-both}
 use Rattle.history.specs.Trace.{Entry}
 use Rattle.clerk.specs.Does.{Line, line, Asked, look, insert, remove, Told, told, isIn, ticketIn, without, does, TellsChange}
 use Rattle.clerk.specs.Calls.{Settles, isSettled, asks, doneBy, listFrom, listAfter}
-use Rattle.clerk.specs.Sequence.{Each, In, Ordered}
-use Rattle.clerk.proofs.Lists.{each-then, each-in}
+use Rattle.walks.specs.Lists.{Each, In, Ordered}
+use Rattle.walks.proofs.Lists.{each-then, each-in}
 
 -- two lots
 abbrev pub OtherLot : Line → Line → Type 0

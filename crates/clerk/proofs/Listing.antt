@@ -19,7 +19,7 @@ use Rattle.history.proofs.Steps.{Begins, Turns}
 use Rattle.history.proofs.Cells.{Known}
 use Rattle.clerk.specs.Does.{Line, line, Asked, Told, told, does, without, TellsChange}
 use Rattle.clerk.specs.Calls.{asks, Settles, listAfter}
-use Rattle.clerk.specs.Sequence.{Each, In}
+use Rattle.walks.specs.Lists.{Each, In}
 use Rattle.clerk.proofs.Counts.{count-more, count-same}
 use Rattle.clerk.proofs.ListAfter.{asks-insert, asks-remove, list-settled, list-quiet}
 use Rattle.clerk.proofs.Listed.{NotOf, not-in-lot, insert-none, remove-there, without-has, without-was, without-length, listed-once}

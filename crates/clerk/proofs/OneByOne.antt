@@ -14,8 +14,9 @@ use Rattle.history.specs.Trace.{Entry}
 use Rattle.history.proofs.Numbered.{answered-ends}
 use Rattle.clerk.specs.Does.{Line, Told, does, answersTo, listLeft}
 use Rattle.clerk.specs.Calls.{EndedCall, IsCallOf, Fits, IsMomentOf, HasMoments, Settles, isSettled, listAfter}
-use Rattle.clerk.specs.Sequence.{Each, Placed, DoneAt, OneByOne, doneUntil, askedIn, answeredIn}
-use Rattle.clerk.proofs.Lists.{each-left, each-right, each-both, each-then}
+use Rattle.walks.specs.Lists.{Each}
+use Rattle.clerk.specs.Sequence.{Placed, DoneAt, OneByOne, doneUntil, askedIn, answeredIn}
+use Rattle.walks.proofs.Lists.{each-left, each-right, each-both, each-then}
 use Rattle.clerk.proofs.ListAfter.{list-settled, list-quiet}
 use Rattle.clerk.proofs.Enumerated.{EndsAfter, callOf, endedAt, callsFrom, callsOf, one-answer}
 use Rattle.clerk.proofs.Enumerated.{each-is-call, calls-append, calls-later, ends-within, turn-is}

@@ -12,7 +12,8 @@ use Rattle.history.specs.Trials.{sleeper, repeatedWord}
 use Rattle.history.proofs.Reached.{twoWorkers, threeWorkers, computed}
 use Rattle.clerk.specs.Does.{Told, line, look, does}
 use Rattle.clerk.specs.Calls.{EndedCall, IsCallOf, IsMomentOf, listAfter}
-use Rattle.clerk.specs.Sequence.{In, Placed, OneByOne}
+use Rattle.walks.specs.Lists.{In}
+use Rattle.clerk.specs.Sequence.{Placed, OneByOne}
 use Rattle.clerk.specs.Trials.{sleeperSequence, twoInserts, twoInsertsSequence, repeatedSequence}
 use Rattle.clerk.specs.Trials.{lookTooLate, lateLook, lookTooLateSequence, lookInTheGap, gapLook, lookInTheGapSequence, madeUp}
 use Rattle.clerk.proofs.Since.{since}

@@ -6,8 +6,9 @@ use mathlib.Core.Path.{_≡_, refl, sym, ap, _∙_}
 use native.Mathlib.Decide.{ℕ-discrete}
 use native.Mathlib.Omega.{arith}
 use Rattle.clerk.specs.Calls.{EndedCall}
-use Rattle.clerk.specs.Sequence.{Each, Has, In, Ordered, Placed}
-use Rattle.clerk.proofs.Lists.{each-all, each-append, each-then, has-left, has-right, ordered-append}
+use Rattle.walks.specs.Lists.{Each, Has, In, Ordered}
+use Rattle.clerk.specs.Sequence.{Placed}
+use Rattle.walks.proofs.Lists.{each-all, each-append, each-then, has-left, has-right, ordered-append}
 use Rattle.clerk.proofs.Enumerated.{EndsBefore}
 
 -- any call

@@ -13,7 +13,7 @@ use Rattle.turn.specs.declared.Progress.the-variants.{GoesOn, Ended}
 use Rattle.turn.specs.Worker.{mayStand}
 use Rattle.history.specs.Trace.{Entry, By, None}
 use Rattle.history.specs.InCall.{AtRest}
-use Rattle.history.specs.History.{State, Opening, Call, look, insert, remove, turn, run, show, count, opened, recordOf}
+use Rattle.history.specs.History.{State, Opening, Call, look, insert, remove, turn, run, show, count, orders, opened, recordOf}
 use Rattle.history.specs.History.{after, entries, stateFrom, traceFrom, state, trace}
 use Rattle.history.proofs.View.{each-worker}
 use Rattle.history.proofs.States.{view}
@@ -241,6 +241,7 @@ module _ (o : Opening) where
         (λ s t e past ts act traced. turn-traced _ past act traced) s turns (trace o calls) [] (traced-then calls (run turns) old)
     call-traced (show lot) = rw (append-nil (trace o calls)) (traced-then calls (show lot) old)
     call-traced count = rw (append-nil (trace o calls)) (traced-then calls count old)
+    call-traced (orders depth) = rw (append-nil (trace o calls)) (traced-then calls (orders depth) old)
 
   -- ---- histories
 

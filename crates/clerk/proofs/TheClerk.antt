@@ -20,7 +20,8 @@ use Rattle.history.proofs.Lots.{count-tells}
 use Rattle.history.proofs.Cells.{marked-few}
 use Rattle.clerk.specs.Does.{Line, Asked, does, TellsChange}
 use Rattle.clerk.specs.Calls.{EndedCall, IsCallOf, IsMomentOf, HasMoments, Settles, listAfter}
-use Rattle.clerk.specs.Sequence.{In, OneByOne}
+use Rattle.walks.specs.Lists.{In}
+use Rattle.clerk.specs.Sequence.{OneByOne}
 use Rattle.clerk.specs.Clerk.{Stands, IsHeldBy, Clerk}
 use Rattle.clerk.proofs.Listed.{listed-once}
 use Rattle.clerk.proofs.Since.{call-first}

@@ -18,7 +18,7 @@ use Rattle.history.specs.Cells.{cellsAt, keyAt, markAt, home, Holds, keyPlace}
 use Rattle.history.proofs.Steps.{Begins, Turns, stepOf}
 use Rattle.history.proofs.Account.{action-is, still-on}
 use Rattle.history.proofs.Cells.{Known, marked-few, key-same}
-use Rattle.clerk.specs.Sequence.{Each}
+use Rattle.walks.specs.Lists.{Each}
 use Rattle.clerk.proofs.Listed.{NotOf}
 use Rattle.clerk.proofs.Since.{since, since-other, since-within, first-or-some}
 use Rattle.clerk.proofs.Sometime.{Sometime, sometime-on, sometime-now, sometime-from}

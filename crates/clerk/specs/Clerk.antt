@@ -18,7 +18,8 @@ use Rattle.history.specs.History as History
 use Rattle.history.specs.Cells.{markAt, home, Holds}
 use Rattle.clerk.specs.Does.{Line, Asked, look, insert, remove, TellsChange}
 use Rattle.clerk.specs.Calls.{EndedCall, IsCallOf, HasMoments, Settles, asks, listAfter}
-use Rattle.clerk.specs.Sequence.{In, Ordered, Placed, OneByOne}
+use Rattle.walks.specs.Lists.{In, Ordered}
+use Rattle.clerk.specs.Sequence.{Placed, OneByOne}
 
 -- ---- the valid slots
 

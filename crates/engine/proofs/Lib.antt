@@ -1,3 +1,4 @@
+pub mod Adding
 pub mod Buckets
 pub mod Cut
 pub mod Determined

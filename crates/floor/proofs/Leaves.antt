@@ -4,6 +4,7 @@
 --     given-call               a callee to which it goes for good as a `&mut`, at the machine value sx: its last state is said, and the
 --                              token is back
 --     take-call, put-call      the two leaves
+--     read-call                the first of them, by a caller that itself has the list as a `&`
 --     take-known, ..           the leaf's theorem, at the key by which a caller's MIR calls it
 use mathlib.Core.Path.{_≡_, refl}
 use Prim.Native.Nat.{ℕ, _<_, _^_}
@@ -23,7 +24,7 @@ use ghost.Atoms.{Atoms, sem}
 use contract.Monad.{Fun, fact}
 use contract.Lifetimes.{Lfts}
 use contract.Running.{GhostRules, Running, tables}
-use types.Kit.{Given, Item, ‵, _⊛_, Post, runs, lands, Seq, _$_, move, drop, split, join, fsplit, fjoin, feqL, use0, _∵_, !, qed, done}
+use types.Kit.{Given, Item, ‵, _⊛_, Post, runs, lands, Seq, _$_, move, drop, split, join, fsplit, fjoin, feqL, use0, use1, _∵_, !, qed, done}
 use types.Run.{Opds}
 use sound.WpLaws.{FmC}
 use denote.RattleType.{RattleType, Denots, Valss, flat, owns}
@@ -36,7 +37,7 @@ use denote.Triple.Entry.{Args, Res}
 use denote.Triple.Clauses.{Clauses, Ended, Lasts, atExit, closing}
 use denote.Builtin.{usize, SliceRefOf, SliceRefMutOf}
 use denote.Ref.{RefT}
-use denote.Slice.{MutSlice, ShrSlice, Room, slice-vals, finally}
+use denote.Slice.{MutSlice, ShrSlice, Room, slice-vals, finally, shr-slice-copy}
 use denote.Steps.{only, nothing}
 use denote.Struct.Laws as LL
 use denote.Triple.Spec.{tripleOf}
@@ -140,6 +141,24 @@ module _ {M : Type 1} {𝓤 : URA M} {H : Heap 𝓤} {A : Atoms 𝓤} {K : Type 
   take-call t mem run fm met ℓ x room i fits os k = lent-call t fm (plain (λ _. usize) ∷ []) (yes, tt) row (take.clauses 𝓤 H A mem run) met
       (λ _. (i, tt)) (λ _. (uint-vals w64 i, tt)) (λ _. qed W [] ∵ nothing ! $ arg-num ! i fits $ done !)
       val (LL.tells T.the-type T′.the-laws) (λ r. r ≡ getD (x .now) i blank) ℓ x room (λ ν δ. (tt, id⊢ 𝓤 _, λ r ws. refl)) os k
+
+  -- the list is held as a `&`: the leaf has a copy of it
+  pub read-call : K → (mem : Memory → SProp 𝓤) (run : Routine → Fun 𝓤) → FmC 𝓤 H (W .laws) C → Takes 𝓤 H A mem run C
+      → (ℓ : Lifetime) (x : RefT (List Worker)) (i : ℕ) → i < 2 ^ 64
+      → Opds K W (((‵ (flft κ q) ⊛ ‵ ftrue) ⊛ ‵ (owns (ShrSlice (named 0) κ row ∷ usize ∷ []) (x, (i, tt)) (slice-vals x, (uint-vals w64 i, tt))))
+      ∷ ‵ (ShrSlice ℓ κ row .own x (slice-vals x)) ∷ Γ) E xs (only (slice-vals x) ∷ only (uint-vals w64 i) ∷ [])
+      → ((w : Worker) → Is row w (vals w) → w ≡ getD (x .now) i blank
+      → Seq K W (‵ (ShrSlice ℓ κ row .own x (slice-vals x)) ∷ ‵ (flft κ q) ∷ Γ) (lands C Λ E d (val w) rest p))
+      → Seq K W (‵ (ShrSlice ℓ κ row .own x (slice-vals x)) ∷ ‵ (flft κ q) ∷ Γ) (runs C Λ E (seq (call take-def.name xs d) rest) p)
+  read-call t mem run fm met ℓ x i fits os k =
+      let shared : Item 𝓤 = ‵ (ShrSlice ℓ κ row .own x (slice-vals x)) in
+      use1 W (shared ⊛ shared) (shr-slice-copy 𝓤 H A W ℓ κ row .twice x (slice-vals x)) $ split t $
+      nothing t $ arg-num t i fits $ move t (1 ∷ 0 ∷ []) $ fjoin t $ nothing t $ move t (3 ∷ 0 ∷ []) $ join t $ join t $
+      cited-call t fm take.ended (take.clauses 𝓤 H A mem run) met
+      (((κ, tt), (q, tt), tt, (x, (i, tt)), (slice-vals x, (uint-vals w64 i, tt))), tt) (id⊢ 𝓤 _) (‵ (flft κ q) ⊛ ‵ ftrue) refl
+      val (LL.tells T.the-type T′.the-laws) (λ r _. r ≡ getD (x .now) i blank) (λ r _. refl) os (λ w _ is e.
+      -- [the token and true; nothing; the list]
+      split t $ move t (1 ∷ []) $ drop t $ move t (1 ∷ []) $ drop t $ move t (1 ∷ 0 ∷ []) $ k w is e)
 
   pub put-call : K → (mem : Memory → SProp 𝓤) (run : Routine → Fun 𝓤) → FmC 𝓤 H (W .laws) C → Puts 𝓤 H A mem run C → (x : RefT (List Worker)) (sx : Val) (i : ℕ)
       → i < 2 ^ 64 → (w : Worker) → Is row w (vals w)

@@ -14,6 +14,9 @@ mod list; // records out of the list and back, and a turn of one of them
 mod run; // a run that is under way
 mod told; // answers that cross to C
 
+// For all orders, which reads the list in a crate of its own (decision 132).
+pub use list::take_at;
+
 // The floor as it now stands, and the number of refusal, or 0.
 #[repr(C)]
 pub struct Outcome {

@@ -24,7 +24,7 @@ use Rattle.engine.specs.Refusals.{spent, startNumber}
 use Rattle.engine.specs.Calls.{blank, spending, startCall, turned, turnCall}
 use Rattle.engine.proofs.Keeps.{turn-accepted}
 use Rattle.history.specs.Trace.{Entry}
-use Rattle.history.specs.History.{State, Call, look, insert, remove, turn, run, show, count, recordOf, seatOf, runOf}
+use Rattle.history.specs.History.{State, Call, look, insert, remove, turn, run, show, count, orders, recordOf, seatOf, runOf}
 use Rattle.history.specs.History.{startedAs, turnedAs, after, entryOf, turnEntry, entries, stateFrom, traceFrom}
 use Rattle.history.specs.Values.{spentBy, ticketsFrom}
 use Rattle.history.proofs.View.{Starts, Acts}
@@ -179,6 +179,7 @@ module _ (P : State → List Entry → List ℕ → Type 0) where
     call-lasts s (run turns) past ts h = rw (append-nil ts) (run-lasts kept s turns past ts h)
     call-lasts s (show lot) past ts h = rw (append-nil past, append-nil ts) h
     call-lasts s count past ts h = rw (append-nil past, append-nil ts) h
+    call-lasts s (orders depth) past ts h = rw (append-nil past, append-nil ts) h
 
     -- what every accepted start and every turn done keeps, calls one after another keep
     pub calls-last :

@@ -28,7 +28,7 @@ use Rattle.engine.proofs.Sizes.{right-listed}
 use Rattle.engine.proofs.Buckets.{length-opened}
 use Rattle.engine.proofs.Turns.{own}
 use Rattle.engine.proofs.Keeps.{Keeps, each-keeps, turn-keeps}
-use Rattle.history.specs.History.{State, Opening, Call, look, insert, remove, turn, run, show, count, opened, recordOf, seatOf, runOf}
+use Rattle.history.specs.History.{State, Opening, Call, look, insert, remove, turn, run, show, count, orders, opened, recordOf, seatOf, runOf}
 use Rattle.history.specs.History.{startedAs, turnedAs, ranAs, after, stateFrom, state}
 use Rattle.history.specs.Numbers.{OneOf}
 use Rattle.history.specs.Unbroken.{Unbroken}
@@ -179,6 +179,7 @@ after-unbroken s (turn i) ok = turned-unbroken s ok i _ _ (turn-keeps (s .board)
 after-unbroken s (run turns) ok = run-unbroken s ok turns
 after-unbroken s (show lot) ok = ok
 after-unbroken s count ok = ok
+after-unbroken s (orders depth) ok = ok
 
 module _ (s : State) (ok : Unbroken s) (i : ℕ) where
   -- a turn that would be done in a run is done as a call too

@@ -19,7 +19,9 @@ use Rattle.engine.specs.declared.Floor.{Floor}
 use Rattle.engine.specs.Board.{bucketAt, anyBroken}
 use Rattle.engine.specs.Refusals.{wrongFloor, wrongSizes, noWorker, bucketFor}
 use Rattle.engine.specs.Refusals.{startNumber, eachNumber, turnNumber, runNumber, showNumber, countNumber}
-use Rattle.engine.proofs.Sizes.{right-sizes}
+use Rattle.engine.proofs.Sizes.{right-sizes, right-listed}
+use Rattle.walks.specs.Calls.{notSmall, ordersNumber}
+use Rattle.walks.proofs.Classes.{all-sound}
 use Rattle.history.specs.History.{State, recordOf}
 use Rattle.history.specs.Numbers.{OneOf}
 use Rattle.history.specs.Unbroken.{Unbroken}
@@ -117,3 +119,11 @@ module _ (s : State) (ok : Unbroken s) where
   pub count-accepted : countNumber (s .floor) (s .board) ≡ 0
   unfolding countNumber
   count-accepted = rw (floor-fits _ _ _ (ok .sized), none-broken (s .board) (s .floor .buckets) (ok .buckets))
+
+  -- all orders of a small class are never refused
+  pub orders-accepted : (depth : ℕ) → notSmall (s .floor) depth ≡ false → ordersNumber (s .board) (s .floor) (s .records) (length (s .records)) depth ≡ 0
+  unfolding ordersNumber
+  orders-accepted depth small =
+      let is = right-listed _ _ _ (ok .sized) in
+      let sound = all-sound (s .records) (λ i low. ok .records i (omega arith)) in
+      rw (ok .sized, small, sound, ok .buckets 0 (right-sizes _ _ _ (ok .sized) .some-bucket)) refl

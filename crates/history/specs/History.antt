@@ -81,6 +81,8 @@ pub data Call : Type 0 where
   show : ℕ → Call
   -- the lots on the board are counted
   count : Call
+  -- all orders of turns are walked, to a depth
+  orders : ℕ → Call
 
 module _ (s : State) where
   -- what the engine says of the start of a look
@@ -117,7 +119,7 @@ turnedAs s i x = record { board = x .words; floor = s .floor; records = set (s .
 abbrev pub ranAs : State → After Ran → State
 ranAs s x = record { board = x .words; floor = s .floor; records = x .handed .records }
 
--- §2.11, §12.5: the state after a call, by the engine's own; a show and a count change nothing
+-- §2.11, §12.5, §18.5: the state after a call, by the engine's own; a show, a count and all orders change nothing
 abbrev pub after : State → Call → State
 after s (look i lot) = startedAs s i (lookBy s i lot)
 after s (insert i lot t) = startedAs s i (insertBy s i lot t)
@@ -126,6 +128,7 @@ after s (turn i) = turnedAs s i (turnBy s i)
 after s (run turns) = ranAs s (runOf s turns)
 after s (show lot) = s
 after s count = s
+after s (orders depth) = s
 
 -- ---- the turns that a call does
 
@@ -161,6 +164,7 @@ entries s (turn i) = turnEntry s i
 entries s (run turns) = runEntries s turns
 entries s (show lot) = []
 entries s count = []
+entries s (orders depth) = []
 
 -- ---- histories
 
@@ -192,6 +196,7 @@ begins s (turn i) = 0
 begins s (run turns) = 0
 begins s (show lot) = 0
 begins s count = 0
+begins s (orders depth) = 0
 
 -- 1 for a call of the library that begins one of this kind
 abbrev pub isStart : ℕ → State → Call → ℕ

@@ -2,7 +2,7 @@
 -- between two calls.
 use mathlib.Core.List.{List, [], _∷_, _++_, map}
 use lib.ListN.{take}
-use Rattle.history.specs.History.{State, Opening, Call, look, insert, remove, turn, run, show, count, opened, runOf, after}
+use Rattle.history.specs.History.{State, Opening, Call, look, insert, remove, turn, run, show, count, orders, opened, runOf, after}
 
 -- a call by itself, or the turns that a run does
 abbrev pub single : State → Call → List Call
@@ -13,6 +13,7 @@ single s (turn i) = turn i ∷ []
 single s (run turns) = map turn (take (runOf s turns .handed .totals .turns) turns)
 single s (show lot) = show lot ∷ []
 single s count = count ∷ []
+single s (orders depth) = orders depth ∷ []
 
 -- calls from a state, with no run among them
 unfoldable pub singlyFrom : State → List Call → List Call
@@ -33,3 +34,4 @@ NoRuns (remove i lot ∷ cs) = NoRuns cs
 NoRuns (turn i ∷ cs) = NoRuns cs
 NoRuns (show lot ∷ cs) = NoRuns cs
 NoRuns (count ∷ cs) = NoRuns cs
+NoRuns (orders depth ∷ cs) = NoRuns cs

@@ -17,17 +17,16 @@ use Rattle.sheet.specs.declared.Read.{Read}
 use Rattle.sheet.specs.declared.Field.the-variants.{Opening, Calling, Turning}
 use Rattle.sheet.specs.declared.Read.the-variants.{Whole, Refused}
 use Rattle.sheet.specs.Fields.{readField}
-use Rattle.sheet.specs.Line.{totalsLine, refusalLine}
 use Rattle.sheet.specs.Play.{Desk, Outcome, recordOf, callField, turnListed, turnAtDesk, turnsDone, turnsIn}
-use Rattle.sheet.specs.Listing.{Ending, listedFirst, afterField, oneField, fieldsFrom}
+use Rattle.sheet.specs.Listing.{Told, told, Ending, toldFirst, listedFirst, toldRefusal, toldTotals, afterField, oneField, fieldsFrom}
 use Rattle.sheet.proofs.Fielding.{later-field, whole-next}
 use Rattle.history.specs.History.{Call, turn}
 use Rattle.plays.specs.Points.{Point, goes, over, refused, callOf, nextOf, Steps, stays, steps}
 
--- the last line of the listing, where the play stops at a point
-pub data LastLine (sheet : List ℕ) (p : Point) : List ℕ → Type 0 where
-  totals : nextOf sheet p ≡ over → LastLine sheet p (totalsLine (p .left .handed .totals))
-  refusal : (number offset : ℕ) → nextOf sheet p ≡ refused number offset → LastLine sheet p (refusalLine number offset)
+-- what is told last, where the play stops at a point: its line, and the desk and the number with it
+pub data LastTold (sheet : List ℕ) (p : Point) : Told → Type 0 where
+  totals : nextOf sheet p ≡ over → LastTold sheet p (toldTotals (p .left .handed))
+  refusal : (number offset : ℕ) → nextOf sheet p ≡ refused number offset → LastTold sheet p (toldRefusal number offset)
 
 -- a turn that is refused leaves the board and the desk, and lists nothing
 turn-refused : (i : ℕ) (s : After Desk) → eqb (turnAtDesk i s .stop) 0 ≡ false → (turnAtDesk i s .left ≡ s) × (turnAtDesk i s .lines ≡ [])
@@ -41,6 +40,10 @@ turn-refused i s =
     let o = turnListed i w (x .words) (x .handed .worker) (x .handed .answer) d in
     eqb (o .stop) 0 ≡ false → (o .left ≡ s) × (o .lines ≡ []))
     (eqb number 0) _ _ (λ is isnot. not-both true isnot refl) (λ isnot same. (refl, refl))
+
+-- what is told goes by its lines
+same-lines : {words l m : List ℕ} {d : Desk} {stop : ℕ} → l ≡ m → after words (told l d stop) ≡ after words (told m d stop)
+same-lines {words = words} {d = d} {stop = stop} same = ap (λ (x : List ℕ). after words (told x d stop)) same
 
 module _ (sheet : List ℕ) where
   -- a point
@@ -56,9 +59,9 @@ module _ (sheet : List ℕ) where
     pub calls : List Call
     pub end : Point
     pub reached : Steps sheet p calls end
-    pub line : List ℕ
-    pub last : LastLine sheet end line
-    pub listed : e ≡ after (end .left .words) (end .lines ++ line)
+    pub tells : Told
+    pub last : LastTold sheet end tells
+    pub listed : e ≡ after (end .left .words) (toldFirst (end .lines) tells)
 
   -- a play finishes from a point if it does from the next
   on : (p : Point) (cs : List Call) (q : Point) (e f : Ending) → nextOf sheet p ≡ goes cs q → e ≡ f → Finishes q f → Finishes p e
@@ -67,14 +70,14 @@ module _ (sheet : List ℕ) where
         calls = cs ++ rest .calls;
         end = rest .end;
         reached = steps step (rest .reached);
-        line = rest .line;
+        tells = rest .tells;
         last = rest .last;
         listed = same ∙ rest .listed;
       }
 
   -- where a play stops at a point, it finishes there
-  here : (p : Point) (line : List ℕ) (e : Ending) → LastLine sheet p line → e ≡ after (p .left .words) (p .lines ++ line) → Finishes p e
-  here p line e last listed = record { calls = []; end = p; reached = stays; line = line; last = last; listed = listed }
+  here : (p : Point) (t : Told) (e : Ending) → LastTold sheet p t → e ≡ after (p .left .words) (toldFirst (p .lines) t) → Finishes p e
+  here p t e last listed = record { calls = []; end = p; reached = stays; tells = t; last = last; listed = listed }
 
   -- ---- the turns of a field
 
@@ -96,12 +99,12 @@ module _ (sheet : List ℕ) where
           let r = turnsDone ts (o .left) in
           on p (turn i ∷ []) q _ _ (rw is)
           (rw is
-          (ap (after _)
+          (same-lines
           (ap (λ (l : List ℕ). lines ++ l) (append-assoc (o .lines) (r .lines) _) ∙ sym (append-assoc lines (o .lines) _))))
           rest
       turn-finish rest false isnot =
           let same = turn-refused i left isnot in
-          here p (refusalLine (o .stop) field) _ (refusal (o .stop) field (rw isnot)) (rw (isnot, isnot, same .0, same .1))
+          here p (toldRefusal (o .stop) field) _ (refusal (o .stop) field (rw isnot)) (rw (isnot, isnot, same .0, same .1))
 
     -- so it finishes from every turn of a field, if it does where none is left
     turns-finish :
@@ -148,13 +151,13 @@ module _ (sheet : List ℕ) where
             let known = whole-next sheet next _ n is in
             let o = callField c left in
             on at (callOf c ∷ []) (point next n [] (o .left) (lines ++ [])) _ _ (rw (isnot, is, done))
-            (rw done (ap (after _) (sym (append-assoc lines [] _))))
+            (rw done (same-lines (sym (append-assoc lines [] _))))
             (others next n [] (o .left) (lines ++ []) (omega arith) (known .1) (omega arith))
         call-finish false stopped =
-            here at (refusalLine (callField c left .stop) next) _ (refusal (callField c left .stop) next (rw (isnot, is, stopped))) (rw stopped)
+            here at (toldRefusal (callField c left .stop) next) _ (refusal (callField c left .stop) next (rw (isnot, is, stopped))) (rw stopped)
 
       read-finish : (r : Read) → readField sheet next ≡ r → Finishes at (first r)
-      read-finish (Refused place) is = here at (refusalLine 8 place) _ (refusal 8 place (rw (isnot, is))) refl
+      read-finish (Refused place) is = here at (toldRefusal 8 place) _ (refusal 8 place (rw (isnot, is))) refl
       read-finish (Whole (Opening plan) n) is = absurd (let none = later-field sheet next plan n is in omega arith)
       read-finish (Whole (Calling c) n) is = call-finish c n is _ refl
       read-finish (Whole (Turning span) n) is =

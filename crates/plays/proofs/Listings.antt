@@ -18,7 +18,7 @@ use Rattle.sheet.specs.declared.Read.{Read}
 use Rattle.sheet.specs.declared.Read.the-variants.{Whole, Refused}
 use Rattle.sheet.specs.Fields.{readField}
 use Rattle.sheet.specs.Play.{Desk, shutDesk, openField}
-use Rattle.sheet.specs.Listing.{Ending, fieldsFrom, played, wordsAsked, listing}
+use Rattle.sheet.specs.Listing.{fieldsFrom, played, wordsAsked, ownPlay, listing}
 use Rattle.sheet.proofs.Fielding.{first-field}
 use Rattle.history.specs.Numbers.{OneOf}
 use Rattle.history.proofs.Later.{one-each}
@@ -45,12 +45,12 @@ module _ (sheet board : List ℕ) (bytes : Bytes sheet) (short : length sheet �
   start = after board shutDesk
 
   -- a sheet whose floor is accepted
-  accepted-listing : FloorAccepted sheet board → NeverBroken (played sheet board .handed)
+  accepted-listing : FloorAccepted sheet board → NeverBroken (played sheet board .handed .lines)
   accepted-listing f =
       let play = plays-history f bytes in
       let h = play .1 .1 in
       never-refused _ (History.trace (play .0) (play .1 .0)) (h .line)
-      (by (h .last) (λ number offset. h .refused-by (play .1 .0) (h .end) number offset (h .reached))) (ap (λ (e : Ending). e .handed) (h .listed))
+      (by (h .last) (λ number offset. h .refused-by (play .1 .0) (h .end) number offset (h .reached))) (ap (λ (x : After (List ℕ)). x .handed) (h .listed))
     where
       by : {o : History.Opening} {calls : List History.Call} {p : Point} {line : List ℕ}
           → LastOf sheet o calls p line
@@ -64,7 +64,7 @@ module _ (sheet board : List ℕ) (bytes : Bytes sheet) (short : length sheet �
       → readField sheet 0 ≡ Whole (Opening plan) next
       → (t : Bool)
       → eqb (openField plan start .stop) 0 ≡ t
-      → NeverBroken (played sheet board .handed)
+      → NeverBroken (played sheet board .handed .lines)
   unfolding played fieldsFrom
   opened-listing plan next read true is =
       accepted-listing (record { short = short; plan = plan; next = next; read = read; accepted = eqb-true _ 0 is })
@@ -74,7 +74,7 @@ module _ (sheet board : List ℕ) (bytes : Bytes sheet) (short : length sheet �
       (subst (OneOf (1 ∷ 0 ∷ [])) (sym (open-stop plan board)) (open-numbers plan board (plan .workers))) (eqb-false _ 0 isnot) in
       rw (le-ltb 16384 (length sheet) short, read, isnot, open-lists plan board) (alone (in-refusal _ 0 number))
 
-  first-listing : (r : Read) → readField sheet 0 ≡ r → NeverBroken (played sheet board .handed)
+  first-listing : (r : Read) → readField sheet 0 ≡ r → NeverBroken (played sheet board .handed .lines)
   unfolding played fieldsFrom
   first-listing (Refused place) read =
       rw (le-ltb 16384 (length sheet) short, read) (alone (in-refusal 8 place (inr (inr (inr (inr (inr (inr (inl refl)))))))))
@@ -83,15 +83,15 @@ module _ (sheet board : List ℕ) (bytes : Bytes sheet) (short : length sheet �
   first-listing (Whole (Turning span) next) read = let e = first-field sheet _ next read in absurd (let z : _≡_ {A = ℕ} 0 1 = cc in omega arith)
 
 -- whatever bytes the sheet is of and whatever stands on the board, no listing has R 3 or R 7
-pub never-broken : (sheet board : List ℕ) → Bytes sheet → NeverBroken (played sheet board .handed)
+pub never-broken : (sheet board : List ℕ) → Bytes sheet → NeverBroken (played sheet board .handed .lines)
 unfolding played
 never-broken sheet board bytes = by (ltb 16384 (length sheet)) refl
   where
-    by : (t : Bool) → ltb 16384 (length sheet) ≡ t → NeverBroken (played sheet board .handed)
+    by : (t : Bool) → ltb 16384 (length sheet) ≡ t → NeverBroken (played sheet board .handed .lines)
     by true long = rw long (alone (in-refusal 9 0 (inr (inl refl))))
     by false isnot = first-listing sheet board bytes (ltb-false _ _ isnot) (readField sheet 0) refl
 
 -- so it is with the listing that the program prints
 pub listing-never-broken : (sheet : List ℕ) → Bytes sheet → NeverBroken (listing sheet)
-unfolding listing
+unfolding listing ownPlay
 listing-never-broken sheet bytes = never-broken sheet (replicate (wordsAsked sheet) 0) bytes

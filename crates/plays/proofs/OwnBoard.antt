@@ -5,13 +5,14 @@ use mathlib.Core.Path.{_≡_, refl, ap, _∙_}
 use mathlib.Core.List.{List, _++_}
 use lib.ListN.{length, replicate, length-replicate}
 use borrow.Author.Tests.{le-leb}
+use Rattle.turn.specs.Turn.{After}
 use Rattle.engine.specs.declared.Plan.{Plan}
 use Rattle.engine.specs.Calls.{planned}
 use Rattle.engine.proofs.Sizes.{opens-right}
 use Rattle.sheet.specs.declared.Field.the-variants.{Opening}
 use Rattle.sheet.specs.declared.Read.the-variants.{Whole}
 use Rattle.sheet.specs.Fields.{readField}
-use Rattle.sheet.specs.Listing.{Ending, wordsAsked, listing}
+use Rattle.sheet.specs.Listing.{wordsAsked, ownPlay, listing}
 use Rattle.history.specs.History as History
 use Rattle.history.specs.History.{Call, trace}
 use Rattle.plays.specs.Points.{Bytes, FloorAccepted}
@@ -61,8 +62,8 @@ module _ (sheet : List ℕ) where
       (f : FloorAccepted sheet (ownBoard sheet))
       → Bytes sheet
       → (o : History.Opening) × ((calls : List Call) × ((h : PlaysHistory f o calls) × (listing sheet ≡ endLines 1 (trace o calls) ++ h .line)))
-  unfolding listing
+  unfolding listing ownPlay
   listing-plays f bytes =
       let play = plays-history f bytes in
       let h = play .1 .1 in
-      (play .0, (play .1 .0, (h, ap (λ (e : Ending). e .handed) (h .listed))))
+      (play .0, (play .1 .0, (h, ap (λ (x : After (List ℕ)). x .handed) (h .listed))))

@@ -18,7 +18,7 @@ use Rattle.engine.specs.Calls.{Opened, planned, openCall, noTurns}
 use Rattle.engine.proofs.Sizes.{right-sizes}
 use Rattle.sheet.specs.Line.{totalsLine}
 use Rattle.sheet.specs.Play.{Outcome, outcome, deskOf, shutDesk, shutFloor, openField, turnsDone}
-use Rattle.sheet.specs.Listing.{fieldsFrom, played}
+use Rattle.sheet.specs.Listing.{Told, Ending, listedIn, fieldsFrom, played}
 use Rattle.sheet.proofs.Fielding.{whole-next}
 use Rattle.history.specs.Trace.{total}
 use Rattle.history.specs.Counts.{countsOf}
@@ -26,10 +26,10 @@ use Rattle.history.specs.History.{State, Opening, Call, state, trace, stateFrom
 use Rattle.history.proofs.Opened.{opened-is}
 use Rattle.history.proofs.DemandThree.{demand-three}
 use Rattle.plays.specs.Points.{Point, goes, over, refused, nextOf, Steps, stays, steps, Bytes, FloorAccepted, firstPoint}
-use Rattle.plays.specs.Plays.{endLines, OnTheWay, LastOf, PlaysHistory}
+use Rattle.plays.specs.Plays.{endLines, OnTheWay, LastOf, stopOf, PlaysHistory}
 use Rattle.plays.specs.Plays as Last
 use Rattle.plays.proofs.Readings.{floor-version}
-use Rattle.plays.proofs.Ending.{LastLine, totals, refusal, Finishes, comesTo, finish}
+use Rattle.plays.proofs.Ending.{LastTold, totals, refusal, Finishes, comesTo, finish}
 use Rattle.plays.proofs.Standing.{Stands}
 use Rattle.plays.proofs.Points.{Fine, fine, points-stand}
 
@@ -37,11 +37,23 @@ use Rattle.plays.proofs.Points.{Fine, fine, points-stand}
 
 module _ (sheet : List ℕ) where
   -- where a play stops there is no step
-  stuck : (p : Point) (line : List ℕ) (cs : List Call) (q : Point) → LastLine sheet p line → nextOf sheet p ≡ goes cs q → ⊥
-  stuck p line cs q (totals end) step = let e : over ≡ goes cs q = sym end ∙ step in absurd (let z : _≡_ {A = ℕ} 0 1 = cc in omega arith)
-  stuck p line cs q (refusal number offset end) step =
+  stuck : (p : Point) (t : Told) (cs : List Call) (q : Point) → LastTold sheet p t → nextOf sheet p ≡ goes cs q → ⊥
+  stuck p t cs q (totals end) step = let e : over ≡ goes cs q = sym end ∙ step in absurd (let z : _≡_ {A = ℕ} 0 1 = cc in omega arith)
+  stuck p t cs q (refusal number offset end) step =
       let e : refused number offset ≡ goes cs q = sym end ∙ step in
       absurd (let z : _≡_ {A = ℕ} 0 1 = cc in omega arith)
+
+  -- where a sheet is not refused, it can go on from the desk of the last point
+  desk-left : (p : Point) (t : Told) → LastTold sheet p t → nextOf sheet p ≡ over → t .desk ≡ p .left .handed
+  desk-left p t (totals end) is = refl
+  desk-left p t (refusal number offset end) is =
+      let e : refused number offset ≡ over = sym end ∙ is in
+      absurd (let z : _≡_ {A = ℕ} 0 1 = cc in omega arith)
+
+  -- the number that refused it, or 0
+  stop-told : (p : Point) (t : Told) → LastTold sheet p t → t .stop ≡ stopOf (nextOf sheet p)
+  stop-told p t (totals end) = rw end
+  stop-told p t (refusal number offset end) = rw end
 
   -- a step leads to one point, by one list of calls
   same-step :
@@ -50,16 +62,16 @@ module _ (sheet : List ℕ) where
 
   -- so every point is on the way to where the play stops
   one-play :
-      {p q r : Point} {cs ds : List Call} {line : List ℕ}
+      {p q r : Point} {cs ds : List Call} {t : Told}
       → Steps sheet p cs q
       → Steps sheet p ds r
-      → LastLine sheet r line
+      → LastTold sheet r t
       → OnTheWay sheet cs q ds r
   one-play {ds = ds} stays whole last = record { rest = ds; calls-are = refl; goes-on = whole }
-  one-play {p = p} {line = line} (steps {q = m} {cs = as₁} step part) stays last = absurd (stuck p line as₁ m last step)
-  one-play {p = p} {r = r} {line = line} (steps {cs = as₁} {ds = bs₁} step part) (steps {ds = bs₂} then whole) last =
+  one-play {p = p} {t = t} (steps {q = m} {cs = as₁} step part) stays last = absurd (stuck p t as₁ m last step)
+  one-play {p = p} {r = r} {t = t} (steps {cs = as₁} {ds = bs₁} step part) (steps {ds = bs₂} then whole) last =
       let way =
-      one-play {r = r} {line = line} part (subst (λ (x : Point). Steps sheet x bs₂ r) (sym (same-step p _ _ _ _ step then .1)) whole) last in
+      one-play {r = r} {t = t} part (subst (λ (x : Point). Steps sheet x bs₂ r) (sym (same-step p _ _ _ _ step then .1)) whole) last in
       record {
         rest = way .rest;
         calls-are =
@@ -176,17 +188,18 @@ module _ {sheet board : List ℕ} (f : FloorAccepted sheet board) (bytes : Bytes
 
   -- the last line, told from the history
   last-of :
-      {p : Point} {line : List ℕ}
+      {p : Point} {t : Told}
       → p .left .handed .totals ≡ countsOf (trace opening calls)
-      → LastLine sheet p line
-      → LastOf sheet opening calls p line
+      → LastTold sheet p t
+      → LastOf sheet opening calls p (t .lines)
   last-of {p} counted (totals end) = subst (λ (t : Totals). LastOf sheet opening calls p (totalsLine t)) (sym counted) (Last.totals end)
   last-of counted (refusal number offset stop) = Last.refusal number offset stop
 
   -- the play of a sheet of bytes whose floor is accepted is the history of an opening and calls
   pub plays-history : (o : Opening) × ((calls : List Call) × PlaysHistory f o calls)
   plays-history =
-      let there = at-point calls (finishes .end) (finishes .reached) .stands in (
+      let there = at-point calls (finishes .end) (finishes .reached) .stands in
+      let comes = play-comes ∙ finishes .listed in (
         opening,
         (
           calls,
@@ -199,12 +212,13 @@ module _ {sheet board : List ℕ} (f : FloorAccepted sheet board) (bytes : Bytes
                 subst (Fine opening sheet bytes done) stop (fine opening sheet bytes done p (at-point done p reached));
             end = finishes .end;
             reached = finishes .reached;
-            line = finishes .line;
+            line = finishes .tells .lines;
             last = last-of (there .totals) (finishes .last);
             listed =
-                play-comes
-                ∙ finishes .listed
-                ∙ ap₂ (λ (words lines : List ℕ). after words (lines ++ finishes .line)) (there .board) (there .lines);
+                ap listedIn comes
+                ∙ ap₂ (λ (words lines : List ℕ). after words (lines ++ finishes .tells .lines)) (there .board) (there .lines);
+            left = λ end. ap (λ (e : Ending). e .handed .desk) comes ∙ desk-left sheet _ _ (finishes .last) end;
+            stop = ap (λ (e : Ending). e .handed .stop) comes ∙ stop-told sheet _ _ (finishes .last);
           },
         ),
       )

@@ -49,5 +49,5 @@ pub sleeper-listed : listing sleeperSheet ≡ sleeperListing
 unfolding
     computed Fields.readField Fields.isWhole Fields.numberAt Fields.fieldOf Fields.openingAt Fields.callingAt Fields.turningAt
     Fields.callFits Fields.ticketAt Line.decimalIn Play.openField Play.asked Play.callField Play.turnAtDesk Play.turnsDone
-    Listing.fieldsFrom Listing.played Listing.wordsAsked Listing.listing
+    Listing.fieldsFrom Listing.played Listing.wordsAsked Listing.ownPlay Listing.listing
 sleeper-listed = refl

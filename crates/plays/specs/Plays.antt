@@ -9,12 +9,12 @@ use Rattle.turn.specs.declared.Progress.the-variants.{GoesOn, Ended}
 use Rattle.turn.specs.Turn.{after}
 use Rattle.engine.specs.declared.Totals.{Totals}
 use Rattle.sheet.specs.Line.{endLine, totalsLine, refusalLine}
-use Rattle.sheet.specs.Listing.{played}
+use Rattle.sheet.specs.Listing.{listedIn, played}
 use Rattle.history.specs.Trace.{Entry}
 use Rattle.history.specs.Counts.{countsOf}
 use Rattle.history.specs.Numbers.{OneOf}
 use Rattle.history.specs.History.{Opening, Call, workersOf, state, trace, mostLost}
-use Rattle.plays.specs.Points.{Point, over, refused, nextOf, Steps, FloorAccepted, firstPoint}
+use Rattle.plays.specs.Points.{Point, Next, goes, over, refused, nextOf, Steps, FloorAccepted, firstPoint}
 
 -- the E line of a turn that ended its call, with its number, worker, kind and answer; no line where the call goes on
 abbrev pub lineFor : ℕ → Entry → Progress → List ℕ
@@ -54,6 +54,12 @@ pub data LastOf (sheet : List ℕ) (o : Opening) (calls : List Call) (end : Poin
   -- or the refusal that stopped it
   refusal : (number offset : ℕ) → nextOf sheet end ≡ refused number offset → LastOf sheet o calls end (refusalLine number offset)
 
+-- the number of what comes next, where that is a refusal, and else 0
+abbrev pub stopOf : Next → ℕ
+stopOf (goes cs p) = 0
+stopOf over = 0
+stopOf (refused number offset) = number
+
 -- the play of a sheet on a board is the history of this opening and these calls
 pub record PlaysHistory {sheet board : List ℕ} (f : FloorAccepted sheet board) (o : Opening) (calls : List Call) : Type 0 where
   -- the opening is of the sheet's own floor
@@ -74,7 +80,11 @@ pub record PlaysHistory {sheet board : List ℕ} (f : FloorAccepted sheet board)
   -- the listing is the E lines of the trace, and then one last line
   pub line : List ℕ
   pub last : LastOf sheet o calls end line
-  pub listed : played sheet board ≡ after (state o calls .board) (endLines 1 (trace o calls) ++ line)
+  pub listed : listedIn (played sheet board) ≡ after (state o calls .board) (endLines 1 (trace o calls) ++ line)
+  -- where nothing is refused, the desk from which the sheet can go on is that of the last point
+  pub left : nextOf sheet end ≡ over → played sheet board .handed .desk ≡ end .left .handed
+  -- the number that is handed back is that of the refusal, or 0
+  pub stop : played sheet board .handed .stop ≡ stopOf (nextOf sheet end)
 
 -- ---- every listing
 

@@ -18,17 +18,17 @@ use Rattle.engine.specs.Calls.{layCall}
 use Rattle.engine.specs.Room.{Few}
 use Rattle.engine.proofs.Few.{few-le}
 use Rattle.sheet.specs.declared.Call.{Call}
+use Rattle.sheet.specs.declared.Played.{Played}
 use Rattle.sheet.specs.declared.Span.{Span}
 use Rattle.sheet.specs.declared.Field.the-variants.{Opening, Calling, Turning}
 use Rattle.sheet.specs.declared.Read.the-variants.{Whole, Refused}
 use Rattle.sheet.specs.Fields.{readField}
-use Rattle.sheet.specs.Line.{refusalLine, totalsLine}
 use Rattle.sheet.specs.Play.{Desk, deskOf, openedDesk, shutFloor, shutDesk, Outcome, outcome, seatOf, recordOf, asked, callField, openField}
 use Rattle.sheet.specs.Play.{turnAtDesk, andThen, turnsDone}
-use Rattle.sheet.specs.Listing.{Ending, listedFirst, refused, over, afterField, oneField, fieldsFrom}
+use Rattle.sheet.specs.Listing.{Told, told, Ending, listedFirst, toldRefusal, refused, toldTotals, over, afterField, oneField, fieldsFrom}
 use Rattle.sheet.specs.Written.{Wrote}
 use Rattle.sheet.specs.Room.{due}
-use Rattle.sheet.specs.Promises.{Does, Listed}
+use Rattle.sheet.specs.Promises.{Does, Tells, Leaves}
 use Rattle.sheet.proofs.Writing.{wrote-none, wrote-then}
 use Rattle.sheet.proofs.Busy.{busy-none, busy-set-le}
 use Rattle.sheet.proofs.Fielding.{later-field, whole-next, whole-call, whole-turns}
@@ -48,7 +48,9 @@ fields-here (suc more) sheet at s some = let back : suc more - 1 ≡ more = omeg
 
 -- lines before lines
 first-first : (l m : List ℕ) (e : Ending) → listedFirst l (listedFirst m e) ≡ listedFirst (l ++ m) e
-first-first l m e = ap (after (e .words)) (sym (append-assoc l m (e .handed)))
+first-first l m e =
+    let t = e .handed in
+    ap (λ (lines : List ℕ). after (e .words) (told lines (t .desk) (t .stop))) (sym (append-assoc l m (t .lines)))
 
 module _ (rest : ℕ → After Desk → Ending) (long at end : ℕ) (o : Outcome) (f : After Desk → Outcome) where
   -- after a turn that was done its field goes on
@@ -60,14 +62,19 @@ module _ (rest : ℕ → After Desk → Ending) (long at end : ℕ) (o : Outcome
   after-refused some = rw (ne-eqb (o .stop) 0 some, ne-eqb (o .stop) 0 some)
 
 module _ (sheet : List ℕ) (total : Ending) (out₀ : List ℕ) where
-  -- a last line after the lines so far ends the listing
-  last-line :
-      (lines line board : List ℕ) {out later : List ℕ} {written r : ℕ}
+  -- what is told after the lines so far ends the listing
+  last-told :
+      (lines : List ℕ) (t : Told) (board : List ℕ) {out later : List ℕ} {written : ℕ} {r : Played}
       → Wrote out₀ 0 lines out written
-      → listedFirst lines (after board line) ≡ total
-      → Wrote out written line later r
-      → Listed total out₀ board later r
-  last-line lines line board so-far is wrote = rw (← is) (record { left = refl; lines = wrote-then so-far wrote })
+      → listedFirst lines (after board t) ≡ total
+      → Tells t out written later r
+      → Leaves total out₀ board later r
+  last-told lines t board so-far is tells =
+      rw (← is)
+      (record {
+        left = refl;
+        tells = record { lines = wrote-then so-far (tells .lines); floor = tells .floor; records = tells .records; stop = tells .stop };
+      })
 
   -- where a sheet stands, `total` being what all of it comes to: in the field at a place, whose turns are left from `turn` on to its end
   pub record Standing (board out : List ℕ) (d : Desk) (written at turn end : ℕ) : Type 0 where
@@ -111,7 +118,7 @@ module _ (sheet : List ℕ) (total : Ending) (out₀ : List ℕ) where
 
         -- it was refused
         pub turn-refused :
-            {last : List ℕ} {n : ℕ} → (number ≡ 0 → ⊥) → Wrote page next (refusalLine number at) last n → Listed total out₀ later last n
+            {last : List ℕ} {r : Played} → (number ≡ 0 → ⊥) → Tells (toldRefusal number at) page next last r → Leaves total out₀ later last r
         turn-refused some =
             let isnot : o .stop ≡ 0 → ⊥ = λ none. some (did .stop ∙ none) in
             let e =
@@ -120,7 +127,7 @@ module _ (sheet : List ℕ) (total : Ending) (out₀ : List ℕ) where
             ∙ sym (first-first (g .so-far) (o .lines) (refused (o .stop) at (o .left)))
             ∙ ap (listedFirst (g .so-far)) (sym (after-refused (fieldsFrom (g .more) sheet) (length sheet) at end o others isnot))
             ∙ here in
-            last-line _ (refusalLine number at) later then-lines e
+            last-told _ (toldRefusal number at) later then-lines e
 
         -- it was done
         pub turn-next : number ≡ 0 → length (x .records) ≡ 64 → due x next ≤ due d written → Standing later page x next at (turn + 1) end
@@ -155,8 +162,8 @@ module _ (sheet : List ℕ) (total : Ending) (out₀ : List ℕ) where
 
       -- the sheet is over
       pub sheet-over :
-          {last : List ℕ} {n : ℕ} → end ≡ length sheet → Wrote out written (totalsLine (d .totals)) last n → Listed total out₀ board last n
-      sheet-over is = last-line _ (totalsLine (d .totals)) board (g .lines) (rw (eq-eqb end (length sheet) is) at ended)
+          {last : List ℕ} {r : Played} → end ≡ length sheet → Tells (toldTotals d) out written last r → Leaves total out₀ board last r
+      sheet-over is = last-told _ (toldTotals d) board (g .lines) (rw (eq-eqb end (length sheet) is) at ended)
 
       -- there is another field
       module _ (other : end ≡ length sheet → ⊥) where
@@ -170,11 +177,11 @@ module _ (sheet : List ℕ) (total : Ending) (out₀ : List ℕ) where
 
         -- it is malformed
         pub malformed :
-            (place : ℕ) {last : List ℕ} {n : ℕ}
+            (place : ℕ) {last : List ℕ} {r : Played}
             → readField sheet end ≡ Refused place
-            → Wrote out written (refusalLine 8 place) last n
-            → Listed total out₀ board last n
-        malformed place is = last-line _ (refusalLine 8 place) board (g .lines) (rw is at field-here)
+            → Tells (toldRefusal 8 place) out written last r
+            → Leaves total out₀ board last r
+        malformed place is = last-told _ (toldRefusal 8 place) board (g .lines) (rw is at field-here)
 
         -- it is no floor
         pub no-floor : (p : Plan) (next : ℕ) → readField sheet end ≡ Whole (Opening p) next → ⊥
@@ -194,11 +201,11 @@ module _ (sheet : List ℕ) (total : Ending) (out₀ : List ℕ) where
 
             -- it was refused
             pub call-refused :
-                {last : List ℕ} {n : ℕ}
+                {last : List ℕ} {r : Played}
                 → (x .refusal ≡ 0 → ⊥)
-                → Wrote out written (refusalLine (x .refusal) end) last n
-                → Listed total out₀ board last n
-            call-refused some = last-line _ (refusalLine (x .refusal) end) board (g .lines) (rw (ne-eqb (x .refusal) 0 some) at called)
+                → Tells (toldRefusal (x .refusal) end) out written last r
+                → Leaves total out₀ board last r
+            call-refused some = last-told _ (toldRefusal (x .refusal) end) board (g .lines) (rw (ne-eqb (x .refusal) 0 some) at called)
 
             -- 37 bytes of listing for 13 of the sheet, which is the least that a call takes
             room-next : 13 * due started written ≤ 37 * next
@@ -264,11 +271,11 @@ module _ (sheet board : List ℕ) where
 
   -- it is malformed
   pub first-malformed :
-      (place : ℕ) {out last : List ℕ} {n : ℕ}
+      (place : ℕ) {out last : List ℕ} {r : Played}
       → readField sheet 0 ≡ Refused place
-      → Wrote out 0 (refusalLine 8 place) last n
-      → Listed whole out board last n
-  first-malformed place is wrote = rw (← first-here, is) (record { left = refl; lines = wrote })
+      → Tells (toldRefusal 8 place) out 0 last r
+      → Leaves whole out board last r
+  first-malformed place is tells = rw (← first-here, is) (record { left = refl; tells = tells })
 
   -- it is a floor, for which the engine laid out this
   module _
@@ -280,10 +287,13 @@ module _ (sheet board : List ℕ) where
 
       -- it was refused
       pub first-refused :
-          {out last : List ℕ} {n : ℕ} → (l .refusal ≡ 0 → ⊥) → Wrote out 0 (refusalLine (l .refusal) 0) last n → Listed whole out later last n
-      first-refused some wrote =
+          {out last : List ℕ} {r : Played}
+          → (l .refusal ≡ 0 → ⊥)
+          → Tells (toldRefusal (l .refusal) 0) out 0 last r
+          → Leaves whole out later last r
+      first-refused some tells =
           let e = rw (← laid-refused p s₀ later l was some, ne-eqb (l .refusal) 0 some) at opened-here in
-          rw (← e) (record { left = refl; lines = wrote })
+          rw (← e) (record { left = refl; tells = tells })
 
       -- it was done
       pub first-done : l .refusal ≡ 0 → afterField later-fields (length sheet) 0 next (outcome [] (after later (openedDesk (l .floor))) 0) ≡ whole

@@ -1,22 +1,21 @@
 -- The turns of a field are the engine's run. Assumes nothing.
-use Prim.Native.Nat.{ℕ, _+_, _≤_}
+use Prim.Native.Nat.{ℕ, _≤_}
 use mathlib.Core.Bool.{false}
 use mathlib.Core.Path.{_≡_, refl, sym, ap, subst, _∙_}
 use mathlib.Core.List.{List, [], _∷_}
-use native.Mathlib.Nat.{add-zero, add-assoc}
 use lib.Dec.{eqb}
-use lib.ListN.{length, getD, set}
-use borrow.Author.Tests.{le-ltb}
+use lib.ListN.{length}
 use Rattle.mark.proofs.Choices.{by-cases}
 use Rattle.turn.specs.declared.Worker.{Worker}
 use Rattle.turn.specs.declared.Report.{Report}
-use Rattle.turn.specs.Turn.{Answer, Refused, Done, Turned, After, after, noReport}
+use Rattle.turn.specs.Turn.{Turned, After, after, noReport}
 use Rattle.engine.specs.declared.Floor.{Floor}
 use Rattle.engine.specs.declared.Totals.{Totals}
-use Rattle.engine.specs.Refusals.{wrongSizes, eachNumber, runNumber}
-use Rattle.engine.specs.Calls.{Ran, turned, tallied, noTurns, standing, unbegun, blank, goOn, runFrom, runCall}
+use Rattle.engine.specs.Refusals.{wrongSizes, eachNumber}
+use Rattle.engine.specs.Calls.{Ran, turned, noTurns, standing, goOn, runFrom, runCall}
 use Rattle.engine.proofs.Keeps.{each-keeps}
 use Rattle.engine.proofs.Stops.{run-turn-is-turn}
+use Rattle.engine.proofs.Adding.{added, added-none, counting, run-adds, run-goes-whole}
 use Rattle.sheet.specs.Play.{Desk, Outcome, seatOf, recordOf, turnListed, turnAtDesk, andThen, turnsDone}
 use Rattle.sheet.proofs.RightSizes.{same-sizes}
 
@@ -61,56 +60,6 @@ turns-go (t ∷ ts) board d last right =
     let long = each-keeps (d .floor) board (recordOf d t) t .long in
     rw (← run-turn-is-turn board (seatOf d t) (recordOf d t) right)
     (one-turn t ts board d last (λ later ws n r. turns-go ts later (record { floor = d .floor; records = ws; totals = n }) r) right long)
-
--- ---- what a run has counted before
-
--- both counted together
-abbrev pub added : Totals → Totals → Totals
-added t u =
-    record { turns = t .turns + u .turns; changes = t .changes + u .changes; lost = t .lost + u .lost; full = t .full + u .full }
-
-added-none : (t : Totals) → added t noTurns ≡ t
-added-none t = rw (add-zero (t .turns), add-zero (t .changes), add-zero (t .lost), add-zero (t .full))
-
-module _ (t : Totals) where
-  tallied-adds : (place : ℕ) (r : Report) (u : Totals) → tallied place r (added t u) ≡ added t (tallied place r u)
-  tallied-adds place r u =
-      rw (add-assoc (t .turns) (u .turns) 1, add-assoc (t .changes) (u .changes) _, add-assoc (t .lost) (u .lost) _, add-assoc (t .full) (u .full) _)
-
-  -- a run with these counted before
-  abbrev counting : After Ran → After Ran
-  counting x = standing (x .words) (x .handed .records) (added t (x .handed .totals)) (x .handed .last) (x .handed .stop)
-
-  go-on-adds :
-      (rest : After Ran → After Ran) (i place : ℕ) (board : List ℕ) (w : Worker) (a : Answer) (ws : List Worker) (u : Totals) (last : Report)
-      → ((vs : List Worker) (n : Totals) (r : Report) → rest (standing board vs (added t n) r 0) ≡ counting (rest (standing board vs n r 0)))
-      → goOn rest i place board w a (standing board ws (added t u) last 0 .handed)
-      ≡ counting (goOn rest i place board w a (standing board ws u last 0 .handed))
-  go-on-adds rest i place board w (Refused number) ws u last same = refl
-  go-on-adds rest i place board w (Done report) ws u last same =
-      ap (λ (n : Totals). rest (standing board (set ws i w) n report 0)) (tallied-adds place report u)
-      ∙ same (set ws i w) (tallied place report u) report
-
-  -- a run with something counted before counts on from there, and does the same
-  run-adds :
-      (f : Floor) (ts : List ℕ) (board : List ℕ) (ws : List Worker) (u : Totals) (last : Report)
-      → runFrom f ts (standing board ws (added t u) last 0) ≡ counting (runFrom f ts (standing board ws u last 0))
-  unfolding runFrom
-  run-adds f [] board ws u last = refl
-  run-adds f (i ∷ ts) board ws u last =
-      let w = getD ws i blank in
-      let x = turned (eachNumber f board i w) f board w in
-      go-on-adds (runFrom f ts) i (w .place) (x .words) (x .handed .worker) (x .handed .answer) ws u last (run-adds f ts (x .words))
-
--- ---- the call
-
-run-goes-whole :
-    (f : Floor) (board : List ℕ) (ws : List Worker) (listed : ℕ) (ts : List ℕ)
-    → wrongSizes f board listed ≡ false
-    → length ts ≤ 65535
-    → runCall board f ws listed ts ≡ runFrom f ts (unbegun board ws 0)
-unfolding runCall runNumber wrongSizes
-run-goes-whole f board ws listed ts right few = rw (right, le-ltb 65535 (length ts) few)
 
 -- where the sizes are right, the turns of a field leave the board and the records of the engine's run of them, add its totals to the
 -- desk's, and stop with its number

@@ -20,7 +20,7 @@ use Rattle.sheet.specs.declared.Read.the-variants.{Whole, Refused}
 use Rattle.sheet.specs.Fields.{readField}
 use Rattle.sheet.specs.Line.{endLine, totalsLine, refusalLine}
 use Rattle.sheet.specs.Play.{Desk, Outcome, seatOf, recordOf, openField, callField, endedLine, turnListed, turnAtDesk, turnsDone, turnsIn, fieldDone}
-use Rattle.sheet.specs.Listing.{Ending, oneField, fieldsFrom, played, wordsAsked, listing}
+use Rattle.sheet.specs.Listing.{Ending, oneField, fieldsFrom, played, wordsAsked, ownPlay, listing}
 use Rattle.sheet.proofs.Fielding.{whole-next}
 
 -- E lines, one after another
@@ -97,19 +97,19 @@ ends-first {lines} es l =
 module _ (sheet : List ℕ) where
   field-last :
       (rest : ℕ → After Desk → Ending) (at : ℕ) (s : After Desk) (r : Read)
-      → ((f : Field) (next : ℕ) → r ≡ Whole f next → (x : After Desk) → Listing (rest next x .handed))
-      → Listing (oneField rest sheet at s r .handed)
+      → ((f : Field) (next : ℕ) → r ≡ Whole f next → (x : After Desk) → Listing (rest next x .handed .lines))
+      → Listing (oneField rest sheet at s r .handed .lines)
   field-last rest at s (Refused place) others = last-alone (refusal 8 place)
   field-last rest at s (Whole f next) others =
       let o = fieldDone sheet f s in
-      let P : Ending → Type 0 = λ e. Listing (e .handed) in
+      let P : Ending → Type 0 = λ e. Listing (e .handed .lines) in
       ends-first (field-ends sheet f s)
       (by-cases P (eqb (o .stop) 0) _ _
       (λ done. by-cases P (eqb next (length sheet)) _ _ (λ end. last-alone (totals _)) (λ not. others f next refl (o .left)))
       (λ not. last-alone (refusal (o .stop) at)))
 
   -- where there are enough fields, the end of their count is never reached
-  pub fields-last : (more at : ℕ) (s : After Desk) → 1 ≤ more → length sheet < at + more → Listing (fieldsFrom more sheet at s .handed)
+  pub fields-last : (more at : ℕ) (s : After Desk) → 1 ≤ more → length sheet < at + more → Listing (fieldsFrom more sheet at s .handed .lines)
   unfolding fieldsFrom
   fields-last zero at s some enough = absurd (not-suc-le-zero some)
   fields-last (suc more) at s some enough =
@@ -117,13 +117,13 @@ module _ (sheet : List ℕ) where
       (λ f next is x. let w = whole-next sheet at f next is in fields-last more next x (omega arith) (omega arith))
 
 -- whatever the sheet and the board, E lines are listed, then one last line, and nothing after it
-pub one-last-line : (sheet board : List ℕ) → Listing (played sheet board .handed)
+pub one-last-line : (sheet board : List ℕ) → Listing (played sheet board .handed .lines)
 unfolding played
 one-last-line sheet board =
-    by-cases (λ (e : Ending). Listing (e .handed)) (ltb 16384 (length sheet)) _ _
+    by-cases (λ (e : Ending). Listing (e .handed .lines)) (ltb 16384 (length sheet)) _ _
     (λ long. last-alone (refusal 9 0)) (λ not. fields-last sheet (suc (length sheet)) 0 _ (omega arith) (omega arith))
 
 -- so it is with the listing of a sheet
 pub listing-last : (sheet : List ℕ) → Listing (listing sheet)
-unfolding listing
+unfolding listing ownPlay
 listing-last sheet = one-last-line sheet (replicate (wordsAsked sheet) 0)

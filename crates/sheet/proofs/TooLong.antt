@@ -7,11 +7,11 @@ use lib.ListN.{length, take}
 use lib.Seq.{length-take-le}
 use borrow.Author.Tests.{lt-ltb}
 use Rattle.sheet.specs.Line.{refusalLine}
-use Rattle.sheet.specs.Listing.{played, listing}
+use Rattle.sheet.specs.Listing.{played, ownPlay, listing}
 
 -- its listing is the line R 9 0, whatever its bytes are
 pub too-long : (sheet : List ℕ) → 16384 < length sheet → listing sheet ≡ refusalLine 9 0
-unfolding listing played
+unfolding listing ownPlay played
 too-long sheet long = rw (listing, lt-ltb 16384 (length sheet) long)
 
 -- so its first 16,385 bytes have the listing of the whole

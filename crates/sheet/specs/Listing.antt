@@ -12,21 +12,47 @@ use Rattle.sheet.specs.Fields.{readField}
 use Rattle.sheet.specs.Line.{totalsLine, refusalLine}
 use Rattle.sheet.specs.Play.{Desk, Outcome, shutDesk, fieldDone}
 
--- the board that is left, and the listing
+-- what a sheet comes to beside the board: the listing, the desk from which it can go on, and the number that refused it, or 0
+pub record Told : Type 0 where
+  pub lines : List ℕ
+  pub desk : Desk
+  pub stop : ℕ
+
+-- these lines, this desk, this number
+abbrev pub told : List ℕ → Desk → ℕ → Told
+told lines d stop = record { lines = lines; desk = d; stop = stop }
+
+-- the board that is left, and what is told
 abbrev pub Ending : Type 0
-Ending = After (List ℕ)
+Ending = After Told
+
+-- the board that is left, and the listing
+abbrev pub listedIn : Ending → After (List ℕ)
+listedIn e = after (e .words) (e .handed .lines)
+
+-- these lines before what is told
+abbrev pub toldFirst : List ℕ → Told → Told
+toldFirst lines t = told (lines ++ t .lines) (t .desk) (t .stop)
 
 -- these lines first
 abbrev pub listedFirst : List ℕ → Ending → Ending
-listedFirst lines x = after (x .words) (lines ++ x .handed)
+listedFirst lines x = after (x .words) (toldFirst lines (x .handed))
 
--- §9.3: a refusal is the last line
+-- §9.3: a refusal is the last line; nothing goes on from there, so the desk is the shut one
+abbrev pub toldRefusal : ℕ → ℕ → Told
+toldRefusal number offset = told (refusalLine number offset) shutDesk number
+
+-- §9.3: a refusal, and the board as it is left
 abbrev pub refused : ℕ → ℕ → After Desk → Ending
-refused number offset s = after (s .words) (refusalLine number offset)
+refused number offset s = after (s .words) (toldRefusal number offset)
 
 -- §9.2: at the end of the sheet the totals are
+abbrev pub toldTotals : Desk → Told
+toldTotals d = told (totalsLine (d .totals)) d 0
+
+-- §9.2: the totals, and the board as it is left
 abbrev pub over : After Desk → Ending
-over s = after (s .words) (totalsLine (s .handed .totals))
+over s = after (s .words) (toldTotals (s .handed))
 
 -- after the field at a place: its refusal, the end of the sheet, or the next field
 abbrev pub afterField : (ℕ → After Desk → Ending) → ℕ → ℕ → ℕ → Outcome → Ending
@@ -43,7 +69,7 @@ oneField rest sheet at s (Whole field next) = afterField rest (length sheet) at 
 
 -- field after field from a place on, so many at most
 unfoldable pub fieldsFrom : ℕ → List ℕ → ℕ → After Desk → Ending
-fieldsFrom zero sheet at s = after (s .words) []
+fieldsFrom zero sheet at s = after (s .words) (told [] (s .handed) 0)
 fieldsFrom (suc more) sheet at s = oneField (fieldsFrom more sheet) sheet at s (readField sheet at)
 
 -- §6.9, §8.6: the sheet on a lent board; its size comes first. A sheet has no more fields than bytes, or one that is refused
@@ -62,6 +88,10 @@ wordsFor (Whole (Turning t) next) = 0
 unfoldable pub wordsAsked : List ℕ → ℕ
 wordsAsked sheet = wordsFor (readField sheet 0)
 
--- §1.2: THE LISTING OF A SHEET, on as much of the program's own board as its floor asks for
+-- §1.2: a sheet on as much of the program's own board as its floor asks for
+unfoldable pub ownPlay : List ℕ → Ending
+ownPlay sheet = played sheet (replicate (wordsAsked sheet) 0)
+
+-- §1.2: THE LISTING OF A SHEET
 unfoldable pub listing : List ℕ → List ℕ
-listing sheet = played sheet (replicate (wordsAsked sheet) 0) .handed
+listing sheet = ownPlay sheet .handed .lines

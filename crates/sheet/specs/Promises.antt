@@ -9,8 +9,9 @@ use Rattle.engine.specs.declared.Floor.{Floor}
 use Rattle.engine.specs.declared.Totals.{Totals}
 use Rattle.engine.specs.Calls.{recordIn}
 use Rattle.sheet.specs.declared.Took.{Took}
+use Rattle.sheet.specs.declared.Played.{Played}
 use Rattle.sheet.specs.Play.{Desk, deskOf, Outcome, turnAtDesk}
-use Rattle.sheet.specs.Listing.{Ending, played, wordsAsked, listing}
+use Rattle.sheet.specs.Listing.{Told, Ending, played, wordsAsked, listing}
 use Rattle.sheet.specs.Written.{Wrote}
 use Rattle.sheet.specs.Room.{longest, due}
 
@@ -35,12 +36,29 @@ pub record Takes (board : List ℕ) (f : Floor) (i : ℕ) (w : Worker) (t : Tota
   pub known : r .stop ≡ 0 → i < 64
   pub less : (ws : List Worker) → recordIn ws i ≡ w → length ws ≡ 64 → due (putBack f ws i r) (r .written) ≤ due (deskOf f ws t) written
 
--- what a sheet comes to: the buffer before, and the board, the buffer and the length of the listing after
-pub record Listed (e : Ending) (out board later : List ℕ) (r : ℕ) : Type 0 where
+-- what is told was written from a place on: the buffer before and after, and the desk and the number that are handed back with it
+pub record Tells (t : Told) (out : List ℕ) (at : ℕ) (later : List ℕ) (r : Played) : Type 0 where
+  pub lines : Wrote out at (t .lines) later (r .written)
+  pub floor : r .floor ≡ t .desk .floor
+  pub records : r .records ≡ t .desk .records
+  pub stop : r .stop ≡ t .stop
+
+-- what a sheet comes to: the buffer before, and the board, the buffer and what is handed back after
+pub record Leaves (e : Ending) (out board later : List ℕ) (r : Played) : Type 0 where
   pub left : board ≡ e .words
-  pub lines : Wrote out 0 (e .handed) later r
+  pub tells : Tells (e .handed) out 0 later r
 
 -- a sheet on a lent board: what it comes to, and no more than the buffer holds
+pub record SheetPlayed (sheet board out board′ later : List ℕ) (r : Played) : Type 0 where
+  pub whole : Leaves (played sheet board) out board′ later r
+  pub fits : r .written ≤ longest
+
+-- the listing that a sheet comes to: the buffer before, and the board, the buffer and the length of the listing after
+pub record Listed (e : Ending) (out board later : List ℕ) (r : ℕ) : Type 0 where
+  pub left : board ≡ e .words
+  pub lines : Wrote out 0 (e .handed .lines) later r
+
+-- a sheet on a lent board: its listing, and no more than the buffer holds
 pub record SheetListed (sheet board out board′ later : List ℕ) (r : ℕ) : Type 0 where
   pub whole : Listed (played sheet board) out board′ later r
   pub fits : r ≤ longest

@@ -4,10 +4,10 @@ ghost use mathlib.Core.List.{[]};
 ghost use Prim.Native.Nat.{_+_, _≤_};
 ghost use lib.ListN.{length};
 ghost use Rattle.turn.specs.Turn.{after};
-ghost use Rattle.sheet.specs.Play.{shutDesk, openedDesk, outcome};
-ghost use Rattle.sheet.specs.Listing.{afterField, fieldsFrom};
+ghost use Rattle.sheet.specs.Play.{shutFloor, shutDesk, openedDesk, outcome};
+ghost use Rattle.sheet.specs.Listing.{toldRefusal, afterField, fieldsFrom};
 ghost use Rattle.sheet.specs.Room.{longest, LaterFit};
-ghost use Rattle.sheet.specs.Promises.{Listed, SheetListed, BoardAsked};
+ghost use Rattle.sheet.specs.Promises.{Tells, Leaves, SheetPlayed, SheetListed, BoardAsked};
 use engine::Floor;
 use engine::Plan;
 use engine::Totals;
@@ -52,6 +52,15 @@ pub enum Read {
     Refused(usize),
 }
 
+// Where a sheet leaves the desk: the records and the floor from which it can go on, those of a shut desk where it was refused; how long
+// the listing is; and the number that refused it, or 0.
+pub struct Played {
+    pub records: [Worker; 64],
+    pub floor: Floor,
+    pub written: usize,
+    pub stop: u8,
+}
+
 // What a turn has left of its worker's record and of the totals, how long the listing is, and the number that refused it, or 0.
 struct Took {
     pub worker: Worker,
@@ -80,50 +89,81 @@ pub fn words(sheet: &[u8]) -> usize
 pub fn list(sheet: &[u8], board: &mut [u64], out: &mut [u8; ROOM]) -> usize
     ensures { λ r. ⌜ SheetListed (now (sheet .entry)) (now (board .entry)) (now (out .entry)) (now (board .exit)) (now (out .exit)) r ⌝ }
 {
+    let played = stand(sheet, board, out);
+    played.written
+}
+
+// §8.6, §18.7: plays a sheet so, and hands back where it leaves the desk.
+pub fn stand(sheet: &[u8], board: &mut [u64], out: &mut [u8; ROOM]) -> Played
+    ensures { λ r. ⌜ SheetPlayed (now (sheet .entry)) (now (board .entry)) (now (out .entry)) (now (board .exit)) (now (out .exit)) r ⌝ }
+{
     if sheet.len() > LIMIT {
-        return line::refused(out, 0, refusal::TOO_LONG, 0);
+        return refused(out, 0, refusal::TOO_LONG, 0);
     }
     fields(sheet, board, out)
 }
 
+// No floor is open.
+fn shut() -> Floor
+    ensures { λ r. ⌜ r ≡ shutFloor ⌝ }
+{
+    Floor {
+        workers: 0,
+        buckets: 0,
+        last: 0,
+    }
+}
+
+// §9.3: a refusal is the last line.
+fn refused(out: &mut [u8], at: usize, why: u8, offset: usize) -> Played
+    requires { ⌜ (offset ≤ 16384) × (at + 12 ≤ length (now out)) ⌝ }
+    ensures { λ r. ⌜ Tells (toldRefusal why offset) (now (out .entry)) at (now (out .exit)) r ⌝ }
+{
+    let idle = record::idle();
+    let records = [idle; 64];
+    let floor = shut();
+    let written = line::refused(out, at, why, offset);
+    Played {
+        records,
+        floor,
+        written,
+        stop: why,
+    }
+}
+
 // §14.6: the first field, and then the others.
-fn fields(sheet: &[u8], board: &mut [u64], out: &mut [u8]) -> usize
+fn fields(sheet: &[u8], board: &mut [u64], out: &mut [u8]) -> Played
     requires { ⌜ (length (now sheet) ≤ 16384) × (length (now out) ≡ longest) ⌝ }
-    ensures { λ r. ⌜ Listed (fieldsFrom (length (now (sheet .entry)) + 1) (now (sheet .entry)) 0 (after (now (board .entry)) shutDesk))
+    ensures { λ r. ⌜ Leaves (fieldsFrom (length (now (sheet .entry)) + 1) (now (sheet .entry)) 0 (after (now (board .entry)) shutDesk))
         (now (out .entry)) (now (board .exit)) (now (out .exit)) r ⌝ }
 {
     let read = reading::read(sheet, 0);
     let Read::Whole(field, next) = read else {
-        return line::refused(out, 0, refusal::MALFORMED, reading::place(read));
+        return refused(out, 0, refusal::MALFORMED, reading::place(read));
     };
     // never: the reading refuses any other first field
     let Field::Opening(plan) = field else {
-        return line::refused(out, 0, refusal::MALFORMED, 0);
+        return refused(out, 0, refusal::MALFORMED, 0);
     };
-    let shut = Floor {
-        workers: 0,
-        buckets: 0,
-        last: 0,
-    };
-    let laid = engine::open_floor(board, shut, plan.workers, plan);
+    let laid = engine::open_floor(board, shut(), plan.workers, plan);
     if laid.refusal != 0 {
-        return line::refused(out, 0, laid.refusal, 0);
+        return refused(out, 0, laid.refusal, 0);
     }
     let floor = laid.floor;
     later_fields(sheet, board, out, floor, next)
 }
 
-// §14.6: the fields after the first, which ends at a place. The records stay here: a start and a turn are given their worker's alone, so that
-// no array is ever copied. A field's turns are those from `turn` on to `end`.
+// §14.6: the fields after the first, which ends at a place. The records stay here till the end: a start and a turn are given their worker's
+// alone, so that no array is copied on the way. A field's turns are those from `turn` on to `end`.
 fn later_fields(
     sheet: &[u8],
     board: &mut [u64],
     out: &mut [u8],
     opened: Floor,
     first: usize,
-) -> usize
+) -> Played
     requires { ⌜ LaterFit (now sheet) (length (now out)) first ⌝ }
-    ensures { λ r. ⌜ Listed (afterField (fieldsFrom (length (now (sheet .entry))) (now (sheet .entry))) (length (now (sheet .entry))) 0 first
+    ensures { λ r. ⌜ Leaves (afterField (fieldsFrom (length (now (sheet .entry))) (now (sheet .entry))) (length (now (sheet .entry))) 0 first
         (outcome [] (after (now (board .entry)) (openedDesk opened)) 0)) (now (out .entry)) (now (board .exit)) (now (out .exit)) r ⌝ }
 {
     let idle = record::idle();
@@ -144,7 +184,7 @@ fn later_fields(
             }
             let took = play::turn(board, floor, worker, w, totals, out, written);
             if took.stop != 0 {
-                return line::refused(out, took.written, took.stop, at);
+                return refused(out, took.written, took.stop, at);
             }
             let left = took.worker;
             records[i] = left;
@@ -154,18 +194,24 @@ fn later_fields(
             continue;
         }
         if end == sheet.len() {
-            return line::totals(out, written, totals);
+            let after = line::totals(out, written, totals);
+            return Played {
+                records,
+                floor,
+                written: after,
+                stop: 0,
+            };
         }
         at = end;
         let read = reading::read(sheet, at);
         let Read::Whole(field, next) = read else {
-            return line::refused(out, written, refusal::MALFORMED, reading::place(read));
+            return refused(out, written, refusal::MALFORMED, reading::place(read));
         };
         end = next;
         match field {
             // never: the reading refuses a later floor
             Field::Opening(_) => {
-                return line::refused(out, written, refusal::MALFORMED, at);
+                return refused(out, written, refusal::MALFORMED, at);
             }
             Field::Calling(call) => {
                 let i = call.worker as usize;
@@ -175,7 +221,7 @@ fn later_fields(
                 }
                 let started = play::start(board, floor, w, call);
                 if started.refusal != 0 {
-                    return line::refused(out, written, started.refusal, at);
+                    return refused(out, written, started.refusal, at);
                 }
                 let left = started.worker;
                 records[i] = left;

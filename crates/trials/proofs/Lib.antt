@@ -1,1 +1,2 @@
 pub mod TheTrials
+pub mod TheFigures

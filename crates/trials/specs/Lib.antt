@@ -1,2 +1,3 @@
 pub mod Trial
 pub mod Trials
+pub mod Figures

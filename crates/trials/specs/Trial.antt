@@ -20,6 +20,9 @@ use Rattle.engine.specs.declared.Started.{Started}
 use Rattle.engine.specs.declared.Totals.{Totals}
 use Rattle.engine.specs.Board.{bucketAt}
 use Rattle.engine.specs.Calls.{Opened, openCall, lookCall, insertCall, removeCall, turnCall, tallied, noTurns, blank, recordIn, seatIn}
+use Rattle.walks.specs.declared.Walked.{Walked}
+use Rattle.walks.specs.declared.Walked.the-variants.{Refusal, Orders}
+use Rattle.walks.specs.Calls.{ordersCall}
 
 -- ---- a trial: what is asked of the desk, and beside it what is said to come of it
 
@@ -45,6 +48,8 @@ pub data Request : Type 0 where
   placeOf : ℕ → Request
   -- what is the floor's last ticket?
   lastTicket : Request
+  -- what do all orders of turns from here come to, to a depth?
+  allOrders : ℕ → Request
 
 -- what can come of it
 pub data Outcome : Type 0 where
@@ -66,6 +71,8 @@ pub data Outcome : Type 0 where
   counts : ℕ → ℕ → ℕ → ℕ → Outcome
   -- the number that was asked for
   is : ℕ → Outcome
+  -- finished walks, cut walks, the sum of lost swaps, and the most in one walk
+  walked : ℕ → ℕ → ℕ → ℕ → Outcome
 
 infix 68 _⇒_
 -- a line of a trial: of this comes that
@@ -184,6 +191,13 @@ unfoldable pub moreTurns : ℕ → ℕ → Came → Came
 moreTurns i zero c = c
 moreTurns i (suc n) c = moreTurns i n (oneTurn i (c .standing))
 
+-- ---- all orders
+
+-- what comes of all orders
+abbrev pub byWalks : Walked → Outcome
+byWalks (Refusal number) = refused number
+byWalks (Orders w) = walked (w .finished) (w .cut) (w .lost) (w .most)
+
 -- ---- a trial played
 
 -- what comes of a request
@@ -198,6 +212,7 @@ answering markWord s = came (is (cell (bucketAt (s .board) 0) markCell)) s
 answering (wordRead i) s = came (is (recordOf s i .word)) s
 answering (placeOf i) s = came (is (recordOf s i .place)) s
 answering lastTicket s = came (is (s .floor .last)) s
+answering (allOrders depth) s = came (byWalks (ordersCall (s .board) (s .floor) (s .records) (length (s .records)) depth)) s
 
 -- what comes of one line after another
 unfoldable pub playedFrom : Standing → Trial → List Outcome

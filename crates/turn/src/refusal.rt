@@ -26,3 +26,6 @@ pub const MALFORMED: u8 = 8;
 
 // §6.9: a run or a sheet that is too long.
 pub const TOO_LONG: u8 = 9;
+
+// §6.10: all orders of a class that is not a small one.
+pub const NO_SMALL_CLASS: u8 = 10;

@@ -12,9 +12,10 @@ pub const TURN: u8 = 4;
 pub const RUN: u8 = 5;
 pub const SHOW: u8 = 6;
 pub const COUNT: u8 = 7;
+pub const ORDERS: u8 = 8;
 
-pub const NAMES: [&str; 8] = [
-    "open", "look", "insert", "remove", "turn", "run", "show", "count",
+pub const NAMES: [&str; 9] = [
+    "open", "look", "insert", "remove", "turn", "run", "show", "count", "orders",
 ];
 
 /// A board of more words counts as one of so many.
@@ -31,7 +32,7 @@ const LONGER: u8 = 247;
 pub struct Case {
     pub call: u8,
     pub floor: Floor,
-    /// For an opening: W.
+    /// For an opening: W. For all orders: the depth.
     pub worker: u64,
     /// For an opening: N.
     pub lot: u64,
@@ -63,7 +64,7 @@ impl Case {
     /// The case that a row of bytes is; every row is one.
     pub fn read(body: &[u8]) -> Case {
         let mut bytes = Bytes { body, at: 0 };
-        let call = bytes.byte() % 8;
+        let call = bytes.byte() % NAMES.len() as u8;
         let floor = Floor {
             workers: bytes.number(),
             buckets: bytes.number(),

@@ -2,7 +2,9 @@
 
 mod broken;
 mod build;
+pub mod length;
 mod loose;
+mod orders;
 mod places;
 mod ranges;
 mod refusals;
@@ -10,6 +12,7 @@ mod reports;
 
 use crate::case::{with_length, Case};
 use crate::random::Random;
+use length::shortened;
 
 /// The seed of the stored cases.
 pub const STORED_SEED: u64 = 1;
@@ -39,17 +42,27 @@ fn round(seed: u64) -> Bodies {
     }
     ranges::make(&mut bodies);
     reports::make(&mut bodies);
+    orders::make(&mut bodies);
     loose::make(&mut bodies);
     bodies
 }
 
-/// A stream's pieces: each body with its length, the last one cut short by the end of the stream.
+/// A stream's pieces: each body with its length, the last one cut short by the end of the stream. Every case that is put out passes here.
 fn pieces(bodies: &[Vec<u8>]) -> Vec<Vec<u8>> {
-    let mut pieces: Vec<Vec<u8>> = bodies.iter().map(|body| with_length(body)).collect();
-    if let Some(last) = pieces.last_mut() {
-        last.truncate(last.len().max(4) - 2);
-    }
-    pieces
+    let Some((last, others)) = bodies.split_last() else {
+        return Vec::new();
+    };
+    let whole = others.iter().map(|body| with_length(&shortened(body)));
+    whole.chain([cut_short(last)]).collect()
+}
+
+/// A body of which two bytes are missing, or as many as it has. What is left of it is a case too, and may be another.
+fn cut_short(body: &[u8]) -> Vec<u8> {
+    let missing = body.len().min(2);
+    let left = shortened(&body[..body.len() - missing]);
+    let mut piece = with_length(&[left, vec![0; missing]].concat());
+    piece.truncate(piece.len() - missing);
+    piece
 }
 
 /// The stored cases, each with its length.
@@ -68,4 +81,19 @@ pub fn fresh(seed: u64, count: usize) -> Vec<Vec<u8>> {
     }
     bodies.truncate(count);
     pieces(&bodies)
+}
+
+#[cfg(test)]
+mod tests {
+    use super::*;
+
+    /// What is put out is short enough, also where the end of the stream has made another case of it.
+    #[test]
+    fn nothing_is_left_to_shorten() {
+        for body in round(STORED_SEED).bodies {
+            for piece in pieces(&[body.clone(), body]) {
+                assert_eq!(shortened(&piece[2..]), &piece[2..]);
+            }
+        }
+    }
 }

@@ -1,6 +1,7 @@
 //! What the stored cases must meet. A point counts by what a case and its outcome are, not by what the case was made for.
 
 mod broken;
+mod orders;
 mod places;
 mod points;
 mod ranges;
@@ -37,6 +38,7 @@ impl Coverage {
         places::see(case, outcome, &mut met);
         ranges::see(case, outcome, &mut met);
         reports::see(case, outcome, &mut met);
+        orders::see(case, outcome, &mut met);
         met.sort();
         met.dedup();
         for point in met {

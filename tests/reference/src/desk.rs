@@ -2,6 +2,7 @@
 
 use crate::call::Call;
 use crate::memory::{Board, Bucket, BUCKET_WORDS};
+use crate::orders::{Walking, Walks};
 use crate::record::{Record, INSERT};
 use crate::report::{Ran, Report};
 use crate::word::{Snapshot, MAP_INVLD, MAP_VALID};
@@ -15,6 +16,11 @@ pub const MOST_BUCKETS: u64 = 256;
 
 /// §4.10: the most turns of a run.
 pub const MOST_TURNS: usize = 65_535;
+
+/// §6.10: a small class, of which all orders are walked.
+pub const SMALL_BUCKETS: u64 = 1;
+pub const SMALL_WORKERS: u64 = 3;
+pub const MOST_DEPTH: u64 = 24;
 
 /// §2.1.
 #[derive(Clone, Copy, Debug, PartialEq, Eq)]
@@ -196,6 +202,35 @@ impl Desk {
             .filter(|&mark| mark == MAP_VALID)
             .count();
         Ok(lots as u64)
+    }
+
+    /// §18: all orders to the depth; refused as §7.2 has it.
+    pub fn orders(&self, depth: u64) -> Result<Walks, Refusal> {
+        let mut walking = self.outset(depth)?;
+        for _ in 0..depth {
+            walking.go_on(&mut |_, _| ());
+        }
+        Ok(walking.walks())
+    }
+
+    /// The same, before the first turn.
+    pub fn outset(&self, depth: u64) -> Result<Walking, Refusal> {
+        self.measure(self.floor.workers, self.floor.buckets, true)?;
+        if !self.is_small_class() || !(1..=MOST_DEPTH).contains(&depth) {
+            return Err(10);
+        }
+        if self.list.records.iter().any(Record::is_broken) {
+            return Err(3);
+        }
+        if self.board.bucket(0).is_broken() {
+            return Err(7);
+        }
+        Ok(Walking::outset(self))
+    }
+
+    /// §6.10, but for the depth.
+    fn is_small_class(&self) -> bool {
+        self.floor.workers <= SMALL_WORKERS && self.floor.buckets <= SMALL_BUCKETS
     }
 
     /// §6.1.

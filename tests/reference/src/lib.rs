@@ -7,6 +7,7 @@ pub mod desk;
 pub mod figures;
 pub mod frame;
 pub mod memory;
+pub mod orders;
 pub mod record;
 pub mod report;
 pub mod sheet;

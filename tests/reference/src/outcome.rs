@@ -2,6 +2,7 @@
 
 use crate::case::{self, fields, groups, Case};
 use crate::desk::{Desk, Floor, Manner, Refusal};
+use crate::orders::Walks;
 use crate::record::Record;
 use crate::report::{Action, Counts, Ran, Report};
 use std::fmt::Write;
@@ -14,6 +15,7 @@ pub enum Answer {
     Run(Refusal, Ran),
     Show(Result<(usize, Vec<u64>), Refusal>),
     Count(Result<u64, Refusal>),
+    Orders(Result<Walks, Refusal>),
 }
 
 impl Answer {
@@ -24,7 +26,8 @@ impl Answer {
             | Answer::Turn(Err(number))
             | Answer::Run(number, _)
             | Answer::Show(Err(number))
-            | Answer::Count(Err(number)) => *number,
+            | Answer::Count(Err(number))
+            | Answer::Orders(Err(number)) => *number,
             _ => 0,
         }
     }
@@ -43,9 +46,14 @@ pub struct Outcome {
     pub told: Vec<Told>,
 }
 
+/// The desk that a case brings.
+pub fn brought(case: &Case) -> Desk {
+    Desk::brought(case.floor, &case.board, case.list.clone(), Manner::Remade)
+}
+
 /// Does the case's call on what the case brings.
 pub fn outcome(case: &Case) -> Outcome {
-    let mut desk = Desk::brought(case.floor, &case.board, case.list.clone(), Manner::Remade);
+    let mut desk = brought(case);
     let mut told = Vec::new();
     let answer = call(case, &mut desk, &mut told);
     Outcome {
@@ -77,7 +85,8 @@ fn call(case: &Case, desk: &mut Desk, told: &mut Vec<Told>) -> Answer {
             Answer::Run(number, ran)
         }
         case::SHOW => Answer::Show(desk.show(lot)),
-        _ => Answer::Count(desk.count()),
+        case::COUNT => Answer::Count(desk.count()),
+        _ => Answer::Orders(desk.orders(worker)),
     }
 }
 
@@ -134,6 +143,10 @@ fn push_answer(line: &mut String, answer: &Answer) {
             push_words(line, &part);
         }
         Answer::Count(count) => push_numbers(line, &[number, count.unwrap_or(0)]),
+        Answer::Orders(walks) => {
+            push_numbers(line, &[number]);
+            push_numbers(line, &walks.unwrap_or_default().counts());
+        }
     }
 }
 

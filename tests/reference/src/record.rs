@@ -10,7 +10,7 @@ pub const REMOVE: u8 = 3;
 /// §3.2: no slot is held.
 pub const NONE: u8 = 3;
 
-#[derive(Clone, Copy, Debug, PartialEq, Eq)]
+#[derive(Clone, Copy, Debug, PartialEq, Eq, Hash)]
 pub struct Record {
     pub kind: u8,
     pub place: u8,

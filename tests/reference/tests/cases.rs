@@ -3,7 +3,7 @@
 use reference::case::{pieces, with_length, Case};
 use reference::desk::{Floor, List};
 use reference::outcome::{line, lines, outcome, Answer};
-use reference::record::{Record, INSERT};
+use reference::record::{Record, INSERT, LOOK};
 use reference::{cases, store};
 
 fn read_back(case: &Case) -> Case {
@@ -52,7 +52,7 @@ fn missing_bytes_are_0() {
         turns: vec![],
     };
     assert_eq!(Case::read(&[]), empty);
-    assert_eq!(Case::read(&[8]), empty);
+    assert_eq!(Case::read(&[9]), empty);
     let words = Case::read(&[0, 0, 0, 0, 0, 0, 0, 3, 0, 5]);
     assert_eq!(words.board, vec![5, 0, 0]);
 }
@@ -148,6 +148,22 @@ fn lines_of_the_format() {
     assert_eq!(
         line_of(&opened(6, 1)),
         "show 0 0 | 0*8 | 1 1 0 | 0*8 | 0.0.0.0.0.0.3.0\n"
+    );
+    let mut orders = opened(8, 2);
+    assert_eq!(
+        line_of(&orders),
+        "orders a 0 0 0 0 | 2 1 0 | 0*8 | 0.0.0.0.0.0.3.0*2\n"
+    );
+    orders.worker = 24;
+    orders.list.records.fill(Record {
+        kind: LOOK,
+        place: 2,
+        key: 7,
+        ..Record::idle()
+    });
+    assert_eq!(
+        line_of(&orders),
+        "orders 0 39c 0 0 0 | 2 1 0 | 0*8 | 1.2.7.0.0.0.3.0*2\n"
     );
 }
 

@@ -60,13 +60,13 @@ returns-3 c =
     let r = c .before .before in
     let h = r .before .before in
     let o = h .before .before .before .before in
-    let f = o .before .before .before in
+    let f = o .before .before .before .before in
     let is = read-at (f .before .before .before) _ (f .field .given .1) in
-    first-refused _ _ _ _ is _ _ (o .open-floor .ensures .whole) (h .if1 .taken) (r .refused3 .ensures)
+    first-refused _ _ _ _ is _ _ (rw (o .before .shut .ensures) at (o .open-floor .ensures .whole)) (h .if1 .taken) (r .refused3 .ensures)
 
 later-fields-requires : tie.Need-later-fields-requires
 later-fields-requires c κs =
-    let f = c .before .before .before .before .before .before .before .before .before .before in
+    let f = c .before .before .before .before .before .before .before .before .before .before .before in
     let k = f .before .before .before in
     let s = k .before .before .before .before .before .before in
     let n = whole-next _ _ _ _ (read-at k _ (f .field .given .1)) in
@@ -77,9 +77,9 @@ returns-4 c =
     let d = c .before .before .before .before in
     let e = d .before .before .before .before in
     let o = e .before .before .before .before in
-    let f = o .before .before .before in
+    let f = o .before .before .before .before in
     let is = read-at (f .before .before .before) _ (f .field .given .1) in
-    rw (← first-done _ _ _ _ is _ _ (o .open-floor .ensures .whole) (e .if1 .left)) (d .later-fields .ensures)
+    rw (← first-done _ _ _ _ is _ _ (rw (o .before .shut .ensures) at (o .open-floor .ensures .whole)) (e .if1 .left)) (d .later-fields .ensures)
 
 pub fields-spec : {M : Type 1} → statement M
 fields-spec =
@@ -87,5 +87,5 @@ fields-spec =
     (tie.spec
     (λ c κs. search needs) (λ c. search needs) (λ c. search needs) (λ c κs. search needs) refused-requires (λ c. search needs) returns
     (λ c. search needs) (λ c κs. search needs) (λ c. search needs) returns-2
-    (λ c κs. search needs) (λ c κs. search needs) (λ c. search needs) (λ c. search needs) returns-3
+    (λ c κs. search needs) (λ c κs. search needs) (λ c κs. search needs) (λ c. search needs) (λ c. search needs) returns-3
     later-fields-requires (λ c. search needs) (λ c. search needs) returns-4)

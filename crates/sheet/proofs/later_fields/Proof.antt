@@ -169,7 +169,8 @@ returns-2 c =
     let r = c .before .before in
     let h = r .before .before in
     let e = h .before in
-    sheet-over _ _ _ (e .before .loop .inv .0) (e .if1 .left) (h .if4 .taken) (r .totals2 .ensures)
+    sheet-over _ _ _ (e .before .loop .inv .0) (e .if1 .left) (h .if4 .taken)
+    (record { lines = r .totals2 .ensures; floor = refl; records = refl; stop = refl })
 
 -- ---- a field that is refused
 

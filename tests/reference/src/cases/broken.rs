@@ -2,7 +2,7 @@
 
 use super::build::{places, set_bucket};
 use super::Bodies;
-use crate::case::{COUNT, INSERT, LOOK, REMOVE, RUN, SHOW, TURN};
+use crate::case::{COUNT, INSERT, LOOK, ORDERS, REMOVE, RUN, SHOW, TURN};
 use crate::memory::BUCKET_WORDS;
 use crate::random::Random;
 use crate::record::Record;
@@ -10,9 +10,13 @@ use crate::word::Snapshot;
 
 pub fn make(bodies: &mut Bodies) {
     for record in broken_records(&mut bodies.random) {
-        for call in [bodies.random.pick(&[LOOK, INSERT, REMOVE]), TURN, RUN] {
+        let start = bodies.random.pick(&[LOOK, INSERT, REMOVE]);
+        for call in [start, TURN, RUN, ORDERS] {
             with_record(bodies, call, record);
         }
+    }
+    for spoil in BUCKETS {
+        with_bucket(bodies, ORDERS, 1, spoil);
     }
     for n in [1, 2, 3] {
         for spoil in BUCKETS {
@@ -24,10 +28,14 @@ pub fn make(bodies: &mut Bodies) {
     elsewhere(bodies);
 }
 
-/// The call on a worker with this record.
+/// The call on a worker with this record. All orders is on every worker, so there it can be any.
 fn with_record(bodies: &mut Bodies, call: u8, record: Record) {
     let mut case = bodies.random.sound(call);
-    case.list.records[case.worker as usize] = record;
+    let worker = match call {
+        ORDERS => bodies.random.below(case.floor.workers),
+        _ => case.worker,
+    };
+    case.list.records[worker as usize] = record;
     bodies.push(case);
 }
 

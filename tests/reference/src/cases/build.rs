@@ -1,7 +1,7 @@
 //! What cases are made of: sound words, buckets and records, small and likely to meet, and sound cases of every call.
 
 use crate::case::{self, Case};
-use crate::desk::{Floor, List};
+use crate::desk::{Floor, List, MOST_DEPTH, SMALL_BUCKETS};
 use crate::memory::BUCKET_WORDS;
 use crate::random::Random;
 use crate::record::{Record, INSERT, LOOK, NONE, REMOVE};
@@ -114,13 +114,25 @@ impl Random {
         self.pick(&[1, 1, 1, 2, 2, 3])
     }
 
+    /// A depth of all orders, often at an end of its range.
+    pub fn depth(&mut self) -> u64 {
+        match self.below(8) {
+            0 => 1,
+            1 => MOST_DEPTH,
+            _ => 2 + self.below(10),
+        }
+    }
+
     /// A case that is not refused, of small sizes.
     pub fn sound(&mut self, call: u8) -> Case {
         let (w, n) = (self.few(), self.few());
-        self.sound_sized(call, w, n)
+        match call {
+            case::ORDERS => self.sound_sized(call, w, SMALL_BUCKETS),
+            _ => self.sound_sized(call, w, n),
+        }
     }
 
-    /// A case that is not refused, with W and N as asked.
+    /// A case that is not refused, with W and N as asked. All orders is, where they are no small class's.
     pub fn sound_sized(&mut self, call: u8, w: u64, n: u64) -> Case {
         let worker = self.below(w);
         let mut records = vec![Record::idle(); w as usize];
@@ -166,6 +178,7 @@ impl Random {
                 case.list.records[worker] = self.any_record();
                 case.turns = vec![worker as u8; 1];
             }
+            case::ORDERS => case.worker = self.depth(),
             _ => (),
         }
     }

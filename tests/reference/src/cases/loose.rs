@@ -1,8 +1,9 @@
 //! Random cases: histories on opened boards, sound states with one thing spoilt, and bytes of any sort.
 
 use super::build::EDGES;
+use super::length::shorten;
 use super::Bodies;
-use crate::case::{self, Case, COUNT, INSERT, LOOK, OPEN, REMOVE, RUN, SHOW, TURN};
+use crate::case::{Case, COUNT, INSERT, LOOK, OPEN, ORDERS, REMOVE, RUN, SHOW, TURN};
 use crate::desk::{Floor, List};
 use crate::outcome::outcome;
 use crate::random::Random;
@@ -42,6 +43,7 @@ fn history(bodies: &mut Bodies) {
         case.board = after.board;
         case.list.records = after.records;
         next_call(&mut bodies.random, &mut case, lots);
+        shorten(&mut case);
     }
 }
 
@@ -77,7 +79,7 @@ fn next_call(random: &mut Random, case: &mut Case, lots: &[u64]) {
     let idle = case.list.records[case.worker as usize].is_idle();
     case.call = match random.below(40) {
         0 => SHOW,
-        1 => COUNT,
+        1 => random.pick(&[COUNT, ORDERS]),
         2 => random.pick(&[LOOK, INSERT, REMOVE, TURN]),
         3..=7 => RUN,
         _ if idle => random.pick(&[LOOK, INSERT, INSERT, INSERT, REMOVE]),
@@ -88,6 +90,9 @@ fn next_call(random: &mut Random, case: &mut Case, lots: &[u64]) {
     }
     if random.once_in(40) {
         case.ticket = case.floor.last_ticket;
+    }
+    if case.call == ORDERS {
+        case.worker = random.depth();
     }
     if case.call == RUN {
         for _ in 0..1 + random.below(4) {
@@ -101,7 +106,7 @@ fn next_call(random: &mut Random, case: &mut Case, lots: &[u64]) {
 /// A sound case with one thing in it spoilt, which may leave it sound.
 fn spoilt(random: &mut Random) -> Case {
     let call = random.pick(&[
-        OPEN, LOOK, INSERT, REMOVE, TURN, TURN, TURN, TURN, TURN, RUN, RUN, SHOW, COUNT,
+        OPEN, LOOK, INSERT, REMOVE, TURN, TURN, TURN, TURN, TURN, RUN, RUN, SHOW, COUNT, ORDERS,
     ]);
     let mut case = random.sound(call);
     let edge = random.pick(&EDGES);
@@ -181,10 +186,14 @@ fn row(random: &mut Random, below: u64) -> Vec<u8> {
     (0..length).map(|_| random.below(below) as u8).collect()
 }
 
-/// A turn or a run on one worker and one bucket, all else of small bytes, so that it is often sound.
+/// A turn, a run or all orders on one worker and one bucket, all else of small bytes, so that it is often sound.
 fn likely(random: &mut Random) -> Vec<u8> {
-    let call = random.pick(&[case::TURN, case::RUN]);
-    let mut body = vec![call, 1, 1, random.below(4) as u8, 0, 0, 0, 8];
+    let call = random.pick(&[TURN, TURN, RUN, RUN, ORDERS]);
+    let worker = match call {
+        ORDERS => random.below(26) as u8,
+        _ => 0,
+    };
+    let mut body = vec![call, 1, 1, random.below(4) as u8, worker, 0, 0, 8];
     // the mark word in its long form, and the other words in short groups
     body.extend([
         0,

@@ -2,13 +2,14 @@
 
 use super::build::{mark_word, set_bucket};
 use super::Bodies;
-use crate::case::{self, Case, COUNT, INSERT, LOOK, OPEN, REMOVE, RUN, SHOW, TURN};
+use crate::case::{self, Case, COUNT, INSERT, LOOK, OPEN, ORDERS, REMOVE, RUN, SHOW, TURN};
 use crate::memory::BUCKET_WORDS;
 use crate::outcome::outcome;
 use crate::record::Record;
 
 pub fn make(bodies: &mut Bodies) {
-    for call in OPEN..=COUNT {
+    // for all orders only the first of these sizes is a small class
+    for call in OPEN..=ORDERS {
         for (w, n) in [(1, 1), (64, 1), (1, 256), (64, 256)] {
             let case = bodies.random.sound_sized(call, w, n);
             bodies.push(case);

@@ -2,13 +2,13 @@
 
 use super::build::{set_buckets, set_list, set_workers};
 use super::Bodies;
-use crate::case::{self, Case, COUNT, INSERT, LOOK, OPEN, REMOVE, RUN, SHOW, TURN};
+use crate::case::{self, Case, COUNT, INSERT, LOOK, OPEN, ORDERS, REMOVE, RUN, SHOW, TURN};
 use crate::memory::BUCKET_WORDS;
 use crate::random::Random;
 use crate::record::Record;
 
 pub fn make(bodies: &mut Bodies) {
-    for call in OPEN..=COUNT {
+    for call in OPEN..=ORDERS {
         accepted(bodies, call);
         causes_of_1(bodies, call);
         large_boards(bodies, call);
@@ -85,11 +85,11 @@ fn large_boards(bodies: &mut Bodies, call: u8) {
 }
 
 /// Something for which every call gives 1, and which leaves every bucket whole.
-fn spoil_size(case: &mut Case) {
+pub fn spoil_size(case: &mut Case) {
     case.board.push(0);
 }
 
-fn broken_record(random: &mut Random) -> Record {
+pub fn broken_record(random: &mut Random) -> Record {
     let mut record = random.any_record();
     record.slot = 3;
     record

@@ -20,14 +20,25 @@ fn see_broken_record(case: &Case, outcome: &Outcome, met: &mut Vec<String>) {
     let by = match case.call {
         case::TURN => "turn",
         case::RUN => "run",
+        case::ORDERS => "orders",
         _ => "start",
     };
     if !outcome.told.is_empty() {
         return;
     }
-    if let Some([cause]) = record_of(case).map(causes).as_deref() {
+    let record = match case.call {
+        case::ORDERS => only_broken(&case.list.records),
+        _ => record_of(case),
+    };
+    if let Some([cause]) = record.map(causes).as_deref() {
         met.push(format!("{by}: broken record, {cause}"));
     }
+}
+
+fn only_broken(records: &[Record]) -> Option<&Record> {
+    let mut broken = records.iter().filter(|record| record.is_broken());
+    let first = broken.next();
+    first.filter(|_| broken.next().is_none())
 }
 
 /// Everything in a record that the rules don't allow, each with its name.
@@ -135,6 +146,8 @@ fn see_broken_bucket(case: &Case, outcome: &Outcome, met: &mut Vec<String>) {
     let lot = match case.call {
         case::SHOW => Some(case.lot),
         case::COUNT => None,
+        // the only bucket is every lot's
+        case::ORDERS => Some(0),
         _ => record_of(case).map(|record| record.key),
     };
     if !outcome.told.is_empty() {

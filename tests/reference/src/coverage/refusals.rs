@@ -1,5 +1,6 @@
 //! Which numbers came, in which order, and what alone caused a 1.
 
+use super::orders::causes_of_10;
 use crate::case::{self, Case, NAMES};
 use crate::desk::{MOST_BUCKETS, MOST_TURNS, MOST_WORKERS};
 use crate::memory::{Board, BUCKET_WORDS};
@@ -69,15 +70,21 @@ fn is_broken_bucket(case: &Case, number: u64) -> bool {
 }
 
 /// Every number that the case gives cause for, each looked at alone.
-fn applying(case: &Case) -> Vec<u8> {
+pub fn applying(case: &Case) -> Vec<u8> {
     let starts = matches!(case.call, case::LOOK | case::INSERT | case::REMOVE);
     let turns = matches!(case.call, case::TURN | case::RUN);
     let record = record_of(case);
     let broken_bucket = match case.call {
         case::TURN | case::RUN => record.is_some_and(|record| is_broken_at(case, record.key)),
         case::SHOW => is_broken_at(case, case.lot),
-        case::COUNT => (0..MOST_BUCKETS).any(|number| is_broken_bucket(case, number)),
+        case::COUNT | case::ORDERS => {
+            (0..MOST_BUCKETS).any(|number| is_broken_bucket(case, number))
+        }
         _ => false,
+    };
+    let broken_record = match case.call {
+        case::ORDERS => case.list.records.iter().any(Record::is_broken),
+        _ => record.is_some_and(Record::is_broken),
     };
     let applies = [
         (1, !causes_of_1(case).is_empty()),
@@ -85,7 +92,7 @@ fn applying(case: &Case) -> Vec<u8> {
             2,
             worker_of(case).is_some_and(|worker| worker >= sizes(case).0),
         ),
-        (3, record.is_some_and(Record::is_broken)),
+        (3, broken_record),
         (4, starts && record.is_some_and(|record| !record.is_idle())),
         (
             5,
@@ -94,6 +101,7 @@ fn applying(case: &Case) -> Vec<u8> {
         (6, turns && record.is_some_and(Record::is_idle)),
         (7, broken_bucket),
         (9, case.call == case::RUN && case.turns.len() > MOST_TURNS),
+        (10, !causes_of_10(case).is_empty()),
     ];
     let numbers = applies.iter().filter(|(_, does)| *does);
     numbers.map(|(number, _)| *number).collect()

@@ -42,7 +42,8 @@ fn see_turn(case: &Case, report: &Report, met: &mut Vec<String>) {
     see_ends(report, met);
 }
 
-fn came(report: &Report) -> String {
+/// What a turn did, and how its call stands then.
+pub fn came(report: &Report) -> String {
     let action = match report.action {
         Action::Read => "read",
         Action::Store => "store",

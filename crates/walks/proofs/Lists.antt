@@ -3,7 +3,7 @@
 use mathlib.Core.List.{List, [], _∷_, _++_}
 use mathlib.Core.Logic.{_⊎_, inl, inr}
 use mathlib.Core.Path.{_≡_, sym, subst, _∙_}
-use Rattle.clerk.specs.Sequence.{Each, Has, In, Ordered}
+use Rattle.walks.specs.Lists.{Each, Has, In, Ordered}
 
 module _ {A : Type 0} where
   module _ (P : A → Type 0) where
