@@ -8,14 +8,14 @@ use native.Mathlib.Decide.{ℕ-discrete}
 use native.Mathlib.Omega.{arith}
 use lib.Dec.{eqb}
 use lib.ListN.{length, getD}
-use borrow.Author.Tests.{eqb-true, leb-false}
+use borrow.Author.Tests.{eqb-true, leb-false, lt-leb}
 use Rattle.mark.proofs.Choices.{by-cases, passes}
 use Rattle.turn.specs.declared.Worker.{Worker}
 use Rattle.turn.specs.declared.Report.{Report}
-use Rattle.turn.specs.Worker.{broken}
+use Rattle.turn.specs.Worker.{broken, isIdle}
 use Rattle.turn.specs.Bucket.{cell, brokenBucket}
 use Rattle.turn.specs.Places.{rows, stays, turn}
-use Rattle.turn.specs.Turn.{Turned, After, after, refusing, doing}
+use Rattle.turn.specs.Turn.{turnRefusal, Turned, After, after, refusing, doing}
 use Rattle.turn.proofs.Sound.{Accepted, accepted, accepted-works, ready, whole-not-broken}
 use Rattle.turn.proofs.Works.{works-within, From, among}
 use Rattle.turn.proofs.Cells.{cellOf, touched, turn-long, turn-one-cell, turn-one-writing}
@@ -49,6 +49,14 @@ module _ (f : Floor) (board : List ℕ) where
       let sizes = passes (wrongSizes f board listed) 0 _ none in
       let each = each-accepted i w (sizes .1) in
       (right-sizes f board listed (sizes .0), each .0, each .1)
+
+  -- and a turn of a worker that there is, whose record is neither broken nor idle, on a bucket that is not broken, is not refused
+  pub each-unrefused :
+      (i : ℕ) (w : Worker)
+      → i < f .workers → broken w ≡ false → isIdle w ≡ false → brokenBucket (bucketFor f board (w .key)) ≡ false
+      → eachNumber f board i w ≡ 0
+  unfolding eachNumber turnRefusal
+  each-unrefused i w there sound busy whole = rw (lt-leb (f .workers) i there, sound, busy, whole)
 
 -- ---- the cell that an accepted turn touches
 

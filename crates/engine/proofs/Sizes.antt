@@ -26,7 +26,8 @@ right f board is =
       words = eqb-true _ _ (rest .1);
     }
 
-both-fail : (t u : Bool) → (t || u) ≡ false → (t ≡ false) × (u ≡ false)
+-- where neither of two tests holds, each fails
+pub both-fail : (t u : Bool) → (t || u) ≡ false → (t ≡ false) × (u ≡ false)
 both-fail true u is = not-both true is refl
 both-fail false u is = (refl, is)
 

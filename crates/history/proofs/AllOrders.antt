@@ -1,37 +1,22 @@
 -- All orders from where an opened board stands: each is a run that the history can go on with, so demand 3 holds of it. Assumes nothing.
-use Prim.Native.Nat.{ℕ, _+_, _-_, _≤_}
+use Prim.Native.Nat.{ℕ, _+_, _≤_}
 use mathlib.Core.Bool.{false}
 use mathlib.Core.Path.{_≡_, refl, ap}
 use mathlib.Core.List.{List, [], _∷_, _++_}
-use mathlib.Core.Logic.{inl, inr}
 use native.Mathlib.Omega.{arith}
-use Rattle.turn.specs.declared.Worker.{Worker}
-use Rattle.engine.specs.declared.Floor.{Floor}
-use Rattle.walks.specs.Lists.{In}
-use Rattle.walks.specs.Orders.{ran, orders, counted}
+use Rattle.walks.specs.Orders.{orders, lostIn}
 use Rattle.walks.specs.Calls.{notSmall}
+use Rattle.walks.proofs.Lists.{each-all, each-has}
 use Rattle.walks.proofs.TheOrders.{all-orders}
 use Rattle.history.specs.Counts.{oneIf, isLost, lostSwaps}
 use Rattle.history.specs.History.{State, Opening, Call, run, opened, isStart, runOf, entries, after, stateFrom, sumFrom, state, trace, mostLost}
-use Rattle.history.specs.AllOrders.{OrdersFrom}
+use Rattle.history.specs.AllOrders.{mostInOne, OrdersFrom}
 use Rattle.history.proofs.Histories.{traceFrom-then}
 use Rattle.history.proofs.Counts.{total-append}
 use Rattle.history.proofs.Runs.{run-lost}
 use Rattle.history.proofs.Unbroken.{state-unbroken}
 use Rattle.history.proofs.Unrefused.{orders-accepted}
 use Rattle.history.proofs.DemandThree.{demand-three}
-
--- where no walk of a list loses more swaps than this, the most in one is no more
-most-le :
-    (f : Floor) (board : List ℕ) (records : List Worker) (k : ℕ) (os : List (List ℕ))
-    → ((turns : List ℕ) → In turns os → ran f board records turns .handed .totals .lost ≤ k)
-    → counted f board records os .most ≤ k
-unfolding counted
-most-le f board records k [] each = omega arith
-most-le f board records k (o ∷ os) each =
-    let one = each o (inl refl) in
-    let rest = most-le f board records k os (λ turns has. each turns (inr has)) in
-    omega arith
 
 -- a run begins no call
 sum-run : (kind : ℕ) (s : State) (calls : List Call) (turns : List ℕ)
@@ -59,12 +44,13 @@ pub orders-from : (o : Opening) (calls : List Call) (depth : ℕ) → notSmall (
 orders-from o calls depth small =
     let s = state o calls in
     let none = orders-accepted s (state-unbroken o calls) depth small in
+    let all = all-orders (s .floor) (s .board) (s .records) depth none in
+    let those = orders (s .floor) depth (s .board) (s .records) in
+    let lost : List ℕ → ℕ = lostIn (s .floor) (s .board) (s .records) in
+    let Bounded : List ℕ → Type 0 = λ turns. lostSwaps (trace o calls) + lost turns ≤ mostLost o calls in
+    let Most : List ℕ → Type 0 = λ turns. lost turns ≡ mostInOne s depth in
     record {
       accepted = none;
-      listed = all-orders (s .floor) (s .board) (s .records) depth none;
-      bound =
-          (let most = most-le (s .floor) (s .board) (s .records) (mostLost o calls - lostSwaps (trace o calls)) (orders (s .floor) depth (s .board) (s .records))
-          (λ turns has. let b = run-bound o calls turns in omega arith) in
-          let before = run-bound o calls [] in
-          omega arith);
+      listed = all;
+      bound = (let one = each-has Bounded Most those (each-all Bounded (run-bound o calls) those) (all .reached) in rw (← one .2) (one .1));
     }

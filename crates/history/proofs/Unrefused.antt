@@ -1,7 +1,7 @@
 -- Where nothing is broken and the sizes are right, no call is refused by 1, 3 or 7: which numbers of refusal are left, call by call.
 -- Assumes nothing.
 use Prim.Native.Nat.{ℕ, zero, suc, _≤_, _<_}
-use mathlib.Core.Bool.{Bool, true, false, cond, _||_, not}
+use mathlib.Core.Bool.{Bool, false, cond, not}
 use mathlib.Core.List.{List, [], _∷_}
 use mathlib.Core.Logic.{inl, inr}
 use mathlib.Core.Path.{_≡_, refl}
@@ -19,7 +19,8 @@ use Rattle.engine.specs.declared.Floor.{Floor}
 use Rattle.engine.specs.Board.{bucketAt, anyBroken}
 use Rattle.engine.specs.Refusals.{wrongFloor, wrongSizes, noWorker, bucketFor}
 use Rattle.engine.specs.Refusals.{startNumber, eachNumber, turnNumber, runNumber, showNumber, countNumber}
-use Rattle.engine.proofs.Sizes.{right-sizes, right-listed}
+use Rattle.engine.proofs.Sizes.{both-fail, right-sizes, right-listed}
+use Rattle.engine.proofs.Keeps.{each-unrefused}
 use Rattle.walks.specs.Calls.{notSmall, ordersNumber}
 use Rattle.walks.proofs.Classes.{all-sound}
 use Rattle.history.specs.History.{State, recordOf}
@@ -37,11 +38,7 @@ either-of ms t m n one other = by-cases (OneOf ms) t m n (λ is. one) other
 -- floor and board fit together where the list is tested too
 floor-fits : (f : Floor) (board : List ℕ) (listed : ℕ) → wrongSizes f board listed ≡ false → wrongFloor f board ≡ false
 unfolding wrongSizes wrongFloor
-floor-fits f board listed is = first _ _ is
-  where
-    first : (t u : Bool) → (t || u) ≡ false → t ≡ false
-    first true u is = is
-    first false u is = refl
+floor-fits f board listed is = both-fail _ _ is .0
 
 -- no bucket is broken, one after another
 none-broken : (board : List ℕ) (n : ℕ) → ((b : ℕ) → b < n → brokenBucket (bucketAt board b) ≡ false) → anyBroken board n ≡ false
@@ -81,9 +78,9 @@ module _ (s : State) (ok : Unbroken s) where
   module _ (i : ℕ) (under : i < s .floor .workers) where
     -- a turn of a busy worker is never refused
     pub busy-moves : (recordOf s i ≡ idle → ⊥) → eachNumber (s .floor) (s .board) i (recordOf s i) ≡ 0
-    unfolding eachNumber turnRefusal
     busy-moves busy =
-        rw (lt-leb (s .floor .workers) i under, ok .records i under, not-idle (recordOf s i) busy, lot-unbroken (recordOf s i .key))
+        let w = recordOf s i in
+        each-unrefused (s .floor) (s .board) i w under (ok .records i under) (not-idle w busy) (lot-unbroken (w .key))
 
     -- a turn of an idle worker is refused by 6
     pub idle-stays : recordOf s i ≡ idle → eachNumber (s .floor) (s .board) i (recordOf s i) ≡ 6

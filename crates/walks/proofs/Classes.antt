@@ -1,7 +1,7 @@
 -- What it says that all orders are not refused; and records of a list by value, as many as there are, with somebody idle in the other places.
 -- Assumes nothing.
 use Prim.Native.Nat.{ℕ, zero, suc, _≤_, _<_}
-use mathlib.Core.Bool.{Bool, true, false, cond, _||_, and-eq-true-iff, and-false}
+use mathlib.Core.Bool.{false, cond, and-eq-true-iff, and-false}
 use mathlib.Core.Path.{_≡_, refl, sym, ap, _∙_}
 use mathlib.Core.List.{List, [], _∷_}
 use native.Mathlib.Decide.{decLe}
@@ -9,7 +9,7 @@ use native.Mathlib.Omega.{arith}
 use lib.Dec.{leb}
 use lib.ListN.{length, take}
 use borrow.Author.Tests.{leb-true, lt-leb, not-false, ne-eqb}
-use Rattle.mark.proofs.Choices.{by-cases, passes, not-both}
+use Rattle.mark.proofs.Choices.{by-cases, passes}
 use Rattle.turn.specs.declared.Worker.{Worker}
 use Rattle.turn.specs.Worker.{broken, idle}
 use Rattle.turn.specs.Bucket.{brokenBucket}
@@ -18,14 +18,14 @@ use Rattle.engine.specs.declared.Floor.{Floor}
 use Rattle.engine.specs.Board.{bucketAt}
 use Rattle.engine.specs.Refusals.{wrongSizes}
 use Rattle.engine.specs.Calls.{recordIn}
-use Rattle.engine.proofs.Sizes.{right-sizes, right-listed}
+use Rattle.engine.proofs.Sizes.{both-fail, right-sizes, right-listed}
 use Rattle.walks.specs.declared.Class.{Class}
 use Rattle.walks.specs.declared.Walked.the-variants.{Refusal}
 use Rattle.walks.specs.Walk.{seated, walks}
 use Rattle.walks.specs.Calls.{notSmall, anyRecordBroken, ordersNumber, ordersCall, recordsOf, classOf}
 use Rattle.walks.proofs.Sitting.{Sitting, bucket-is-board}
-use Rattle.walks.proofs.Counted.{over}
-use Rattle.walks.proofs.Three.{over-idle, over-three}
+use Rattle.walks.proofs.Counted.{walksFrom}
+use Rattle.walks.proofs.Three.{walksFrom-idle, walksFrom-three}
 
 -- ---- a small class
 
@@ -52,16 +52,8 @@ small-parts f depth is =
 pub each-sound : (ws : List Worker) → anyRecordBroken ws ≡ false → (i : ℕ) → i < length ws → broken (recordIn ws i) ≡ false
 unfolding anyRecordBroken
 each-sound [] none i low = absurd (omega arith)
-each-sound (w ∷ ws) none zero low = fst (broken w) _ none
-  where
-    fst : (t u : Bool) → (t || u) ≡ false → t ≡ false
-    fst true u is = is
-    fst false u is = refl
-each-sound (w ∷ ws) none (suc i) low = each-sound ws (snd (broken w) _ none) i (omega arith)
-  where
-    snd : (t u : Bool) → (t || u) ≡ false → u ≡ false
-    snd true u is = not-both true is refl
-    snd false u is = is
+each-sound (w ∷ ws) none zero low = both-fail (broken w) _ none .0
+each-sound (w ∷ ws) none (suc i) low = each-sound ws (both-fail (broken w) _ none .1) i (omega arith)
 
 -- and a list of which each is not has no broken record
 pub all-sound : (ws : List Worker) → ((i : ℕ) → i < length ws → broken (recordIn ws i) ≡ false) → anyRecordBroken ws ≡ false
@@ -70,15 +62,15 @@ all-sound [] each = refl
 all-sound (w ∷ ws) each = rw (each 0 (omega arith)) (all-sound ws (λ i low. each (suc i) (omega arith)))
 
 -- where all orders are not refused there is a small class, and it is not broken
-pub record Accepted (board : List ℕ) (f : Floor) (records : List Worker) (depth : ℕ) : Type 0 where
+pub record Walkable (board : List ℕ) (f : Floor) (records : List Worker) (depth : ℕ) : Type 0 where
   pub small : Small f depth
   pub sits : Sitting f board records
 
-pub accepted :
+pub walkable :
     (board : List ℕ) (f : Floor) (records : List Worker) (listed depth : ℕ)
-    → length records ≡ listed → ordersNumber board f records listed depth ≡ 0 → Accepted board f records depth
+    → length records ≡ listed → ordersNumber board f records listed depth ≡ 0 → Walkable board f records depth
 unfolding ordersNumber
-accepted board f records listed depth long none =
+walkable board f records listed depth long none =
     let sizes = passes (wrongSizes f board listed) 0 _ none in
     let class = passes (notSmall f depth) 9 _ (sizes .1) in
     let sound = passes (anyRecordBroken records) 2 _ (class .1) in
@@ -103,17 +95,17 @@ accepted board f records listed depth long none =
 -- ---- records by value
 
 -- those that are listed, with somebody idle in the other places
-pub over-seated :
+pub walksFrom-seated :
     (depth : ℕ) (words : List ℕ) (a b c : Worker) (listed lost : ℕ)
     → 1 ≤ listed → listed ≤ 3
-    → over depth words (take listed (a ∷ b ∷ c ∷ [])) lost ≡ walks depth words a (seated b 1 listed) (seated c 2 listed) lost
-over-seated depth words a b c zero lost some few = absurd (omega arith)
-over-seated depth words a b c (suc zero) lost some few =
-    sym (over-idle depth words (a ∷ []) lost) ∙ sym (over-idle depth words (a ∷ idle ∷ []) lost) ∙ over-three depth words a idle idle lost
-over-seated depth words a b c (suc (suc zero)) lost some few =
-    sym (over-idle depth words (a ∷ b ∷ []) lost) ∙ over-three depth words a b idle lost
-over-seated depth words a b c (suc (suc (suc zero))) lost some few = over-three depth words a b c lost
-over-seated depth words a b c (suc (suc (suc (suc n)))) lost some few = absurd (omega arith)
+    → walksFrom depth words (take listed (a ∷ b ∷ c ∷ [])) lost ≡ walks depth words a (seated b 1 listed) (seated c 2 listed) lost
+walksFrom-seated depth words a b c zero lost some few = absurd (omega arith)
+walksFrom-seated depth words a b c (suc zero) lost some few =
+    sym (walksFrom-idle depth words (a ∷ []) lost) ∙ sym (walksFrom-idle depth words (a ∷ idle ∷ []) lost) ∙ walksFrom-three depth words a idle idle lost
+walksFrom-seated depth words a b c (suc (suc zero)) lost some few =
+    sym (walksFrom-idle depth words (a ∷ b ∷ []) lost) ∙ walksFrom-three depth words a b idle lost
+walksFrom-seated depth words a b c (suc (suc (suc zero))) lost some few = walksFrom-three depth words a b c lost
+walksFrom-seated depth words a b c (suc (suc (suc (suc n)))) lost some few = absurd (omega arith)
 
 -- so many of three are listed
 pub length-records : (c : Class) → c .listed ≤ 3 → length (recordsOf c) ≡ c .listed

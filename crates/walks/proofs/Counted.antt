@@ -40,10 +40,10 @@ turnThen rest board records lost i w =
     rest (t .words) (set records i (t .handed .worker)) (lost + losses (t .handed .said .report .action))
 
 -- all walks with so many turns left, and so many swaps lost before
-unfoldable pub over : ℕ → List ℕ → List Worker → ℕ → Walks
-over zero board records lost = oneWalk (allIdle records) lost
-over (suc depth) board records lost =
-    cond (allIdle records) (oneWalk true lost) (summed (turnThen (over depth) board records lost) 0 records)
+unfoldable pub walksFrom : ℕ → List ℕ → List Worker → ℕ → Walks
+walksFrom zero board records lost = oneWalk (allIdle records) lost
+walksFrom (suc depth) board records lost =
+    cond (allIdle records) (oneWalk true lost) (summed (turnThen (walksFrom depth) board records lost) 0 records)
 
 -- ---- the counts over orders, with so many swaps lost before
 
@@ -128,20 +128,20 @@ late-none {f} {board} {records} g lost =
     rw (ran-none g, none) (together-none _)
 
 module _ (depth : ℕ) (few : depth < 24) (f : Floor) (board : List ℕ) (records : List Worker) (g : Sitting f board records) (lost : ℕ) where
-  over-next :
-      ((board : List ℕ) (records : List Worker) (lost : ℕ) → Sitting f board records → late f board records lost (orders f depth board records) ≡ over depth board records lost)
-      → late f board records lost (orders f (suc depth) board records) ≡ over (suc depth) board records lost
-  unfolding orders over
-  over-next rest =
+  walksFrom-next :
+      ((board : List ℕ) (records : List Worker) (lost : ℕ) → Sitting f board records → late f board records lost (orders f depth board records) ≡ walksFrom depth board records lost)
+      → late f board records lost (orders f (suc depth) board records) ≡ walksFrom (suc depth) board records lost
+  unfolding orders walksFrom
+  walksFrom-next rest =
       by-cases
       (λ (os : List (List ℕ)).
       late f board records lost os
-      ≡ cond (allIdle records) (oneWalk true lost) (summed (turnThen (over depth) board records lost) 0 records))
+      ≡ cond (allIdle records) (oneWalk true lost) (summed (turnThen (walksFrom depth) board records lost) 0 records))
       (allIdle records) _ _ (λ idle. rw idle (late-none g lost ∙ ap (λ (t : Bool). oneWalk t lost) idle))
-      (λ busy. rw busy (late-flat f board records lost 0 records (begunWith f depth board records) (turnThen (over depth) board records lost) each))
+      (λ busy. rw busy (late-flat f board records lost 0 records (begunWith f depth board records) (turnThen (walksFrom depth) board records lost) each))
     where
       each : (j : ℕ) → Busy records j
-          → late f board records lost (begunWith f depth board records (0 + j)) ≡ turnThen (over depth) board records lost (0 + j) (recordIn records j)
+          → late f board records lost (begunWith f depth board records (0 + j)) ≡ turnThen (walksFrom depth) board records lost (0 + j) (recordIn records j)
       each j b =
           let here : 0 + j ≡ j = omega arith in
           let sits = turn-sits g b in
@@ -152,19 +152,19 @@ module _ (depth : ℕ) (few : depth < 24) (f : Floor) (board : List ℕ) (record
           rw (here, begun-with g b depth)
           (late-front g b lost (orders f depth (boardAfter g b) (recordsAfter g b)) short
           ∙ rest (boardAfter g b) (recordsAfter g b) (lost + lossOf g b) sits
-          ∙ sym (try-turns g b (over depth) lost))
+          ∙ sym (try-turns g b (walksFrom depth) lost))
 
-late-over :
+late-walksFrom :
     (depth : ℕ) → depth ≤ 24 → (f : Floor) (board : List ℕ) (records : List Worker) (lost : ℕ) → Sitting f board records
-    → late f board records lost (orders f depth board records) ≡ over depth board records lost
-unfolding orders over
-late-over zero few f board records lost g = late-none g lost
-late-over (suc depth) few f board records lost g =
-    over-next depth (omega arith) f board records g lost (λ b ws l sits. late-over depth (omega arith) f b ws l sits)
+    → late f board records lost (orders f depth board records) ≡ walksFrom depth board records lost
+unfolding orders walksFrom
+late-walksFrom zero few f board records lost g = late-none g lost
+late-walksFrom (suc depth) few f board records lost g =
+    walksFrom-next depth (omega arith) f board records g lost (λ b ws l sits. late-walksFrom depth (omega arith) f b ws l sits)
 
 -- the recursion over the list comes to the counts over all orders
-pub over-counted :
+pub walksFrom-counted :
     (depth : ℕ) → depth ≤ 24 → (f : Floor) (board : List ℕ) (records : List Worker) → Sitting f board records
-    → counted f board records (orders f depth board records) ≡ over depth board records 0
-over-counted depth few f board records g =
-    sym (late-counted f board records (orders f depth board records)) ∙ late-over depth few f board records 0 g
+    → counted f board records (orders f depth board records) ≡ walksFrom depth board records 0
+walksFrom-counted depth few f board records g =
+    sym (late-counted f board records (orders f depth board records)) ∙ late-walksFrom depth few f board records 0 g

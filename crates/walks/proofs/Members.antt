@@ -1,6 +1,6 @@
 -- The list of all orders: every order of a small class is in it, nothing else is, and none twice. Assumes nothing.
 use Prim.Native.Nat.{ℕ, zero, suc, _+_, _≤_, _<_}
-use mathlib.Core.Bool.{Bool, true, false, cond, _&&_}
+use mathlib.Core.Bool.{true, false, cond, and-false}
 use mathlib.Core.Path.{_≡_, refl, sym, ap, subst, _∙_}
 use mathlib.Core.List.{List, [], _∷_, _++_, map, flatMap, nil≢cons, head-eq-of-cons-eq, tail-eq-of-cons-eq}
 use mathlib.Core.Logic.{inl, inr}
@@ -66,11 +66,7 @@ unfolding allIdle
 somebody-busy [] i b = absurd (let low = b .listed in omega arith)
 somebody-busy (w ∷ ws) zero b = rw (b .busy)
 somebody-busy (w ∷ ws) (suc i) b =
-    rw (somebody-busy ws i (record { listed = (let low = b .listed in omega arith); busy = b .busy })) (off (isIdle w))
-  where
-    off : (t : Bool) → (t && false) ≡ false
-    off true = refl
-    off false = refl
+    rw (somebody-busy ws i (record { listed = (let low = b .listed in omega arith); busy = b .busy })) (and-false (isIdle w))
 
 -- and where not all are idle somebody is listed
 somebody-listed : (k : ℕ) (ws : List Worker) → allIdle ws ≡ false → (i : ℕ) × In i (busyFrom k ws)

@@ -22,8 +22,8 @@ use Rattle.walks.specs.Calls.{notSmall, anyRecordBroken, sizeNumber, ord
 use Rattle.walks.specs.Told.{ordersTold}
 use Rattle.walks.specs.Promises.{OrdersWalked, OrdersLeft}
 use Rattle.walks.proofs.Sitting.{bucket-is-board}
-use Rattle.walks.proofs.Counted.{over-counted}
-use Rattle.walks.proofs.Classes.{Small, small-parts, accepted, over-seated, length-records, same-number, same-call}
+use Rattle.walks.proofs.Counted.{walksFrom-counted}
+use Rattle.walks.proofs.Classes.{Small, small-parts, walkable, walksFrom-seated, length-records, same-number, same-call}
 
 -- nobody who is seated in a place that is left is broken
 any-seated :
@@ -110,10 +110,10 @@ module _ (board : List ℕ) (f : Floor) (c : Class) (depth : ℕ) where
     unfolding ordersCall
     walked-all none =
         let zero-is : number ≡ 0 = sym number-is ∙ none in
-        let ok = accepted board f (recordsOf c) (c .listed) depth (length-records c (few .1)) zero-is in
+        let ok = walkable board f (recordsOf c) (c .listed) depth (length-records c (few .1)) zero-is in
         let is =
-        over-counted depth (small .most) f board (recordsOf c) (ok .sits)
-        ∙ over-seated depth board (c .first) (c .second) (c .third) (c .listed) 0 (few .0) (few .1) in
+        walksFrom-counted depth (small .most) f board (recordsOf c) (ok .sits)
+        ∙ walksFrom-seated depth board (c .first) (c .second) (c .third) (c .listed) 0 (few .0) (few .1) in
         record { whole = rw (zero-is, is); number = sym zero-is }
 
 -- ---- on the lent list

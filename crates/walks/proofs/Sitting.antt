@@ -2,17 +2,15 @@
 -- Assumes nothing.
 use Prim.Native.Nat.{ℕ, _%_, _≤_, _<_}
 use mathlib.Core.Bool.{false}
-use mathlib.Core.Path.{_≡_, refl, _∙_}
+use mathlib.Core.Path.{_≡_, _∙_}
 use mathlib.Core.List.{List, append-nil}
 use native.Mathlib.Decide.{ℕ-discrete}
 use native.Mathlib.Omega.{arith}
 use lib.ListN.{length, set, length-set, drop-of-length-le}
 use lib.Seq.{take-all, getD-set-same, getD-set-other}
-use borrow.Author.Tests.{lt-leb}
 use Rattle.turn.specs.declared.Worker.{Worker}
 use Rattle.turn.specs.Worker.{broken}
 use Rattle.turn.specs.Places.{turn}
-use Rattle.turn.specs.Turn.{turnRefusal}
 use Rattle.turn.proofs.Sound.{Whole, whole-not-broken, Accepted, not-broken}
 use Rattle.turn.proofs.Kept.{turn-whole, turn-sound}
 use Rattle.engine.specs.declared.Floor.{Floor}
@@ -20,6 +18,7 @@ use Rattle.engine.specs.Board.{bucketAt, withBucket}
 use Rattle.engine.specs.Refusals.{bucketFor, eachNumber, wrongSizes}
 use Rattle.engine.specs.Calls.{blank, recordIn}
 use Rattle.engine.proofs.Sizes.{sizes-right}
+use Rattle.engine.proofs.Keeps.{each-unrefused}
 use Rattle.walks.specs.Orders.{Busy}
 
 -- one bucket, which is whole, and a record for each worker, none of them broken
@@ -74,15 +73,9 @@ module _ {f : Floor} {board : List ℕ} {records : List Worker} (g : Sitting f b
 
     -- it has no number of refusal
     pub busy-unrefused : eachNumber f board i w ≡ 0
-    unfolding eachNumber turnRefusal
     busy-unrefused =
-        rw (
-          own-bucket (w .key),
-          lt-leb (f .workers) i (let is = g .listed in let low = b .listed in omega arith),
-          g .sound i (b .listed),
-          b .busy,
-          whole-not-broken board (g .whole),
-        ) refl
+        let there : i < f .workers = omega (arith, g .listed, b .listed) in
+        each-unrefused f board i w there (g .sound i (b .listed)) (b .busy) (rw (own-bucket (w .key)) (whole-not-broken board (g .whole)))
 
     sound-after : (j : ℕ) → j < length records → Dec (j ≡ i) → broken (recordIn (set records i (turn board w .stepped .worker)) j) ≡ false
     sound-after j low (yes is) =

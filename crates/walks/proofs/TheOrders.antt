@@ -16,7 +16,7 @@ use Rattle.walks.specs.AllOrders.{AllOrders}
 use Rattle.walks.proofs.Sitting.{Sitting, turn-sits}
 use Rattle.walks.proofs.Going.{ran-none, boardAfter, recordsAfter, run-follows}
 use Rattle.walks.proofs.Members.{every-order, nothing-else, once-each, some-order, order-rest}
-use Rattle.walks.proofs.Classes.{accepted}
+use Rattle.walks.proofs.Classes.{walkable}
 
 -- the engine's run of these turns does them all
 abbrev Does : Floor → List ℕ → List Worker → List ℕ → Type 0
@@ -97,7 +97,7 @@ pub all-orders :
     (f : Floor) (board : List ℕ) (records : List Worker) (depth : ℕ)
     → ordersNumber board f records (length records) depth ≡ 0 → AllOrders f board records depth
 all-orders f board records depth none =
-    let ok = accepted board f records (length records) depth refl none in
+    let ok = walkable board f records (length records) depth refl none in
     let few = ok .small .most in
     let only = nothing-else depth few f board records (ok .sits) in
     record {

@@ -1,11 +1,12 @@
 -- Three records by value: a class of fewer has somebody idle in the places that are left, who counts for nothing, and it does not matter who
 -- of the three comes first. Assumes nothing.
 use Prim.Native.Nat.{ℕ, zero, suc, _+_, _<_}
-use mathlib.Core.Bool.{Bool, true, false, cond, _&&_}
+use mathlib.Core.Bool.{Bool, true, cond, _&&_, and-true, and-comm, and-assoc}
 use mathlib.Core.Path.{_≡_, refl, sym, ap, ap₂, _∙_}
 use mathlib.Core.List.{List, [], _∷_, _++_}
 use native.Mathlib.Omega.{arith}
 use lib.ListN.{length, set}
+use lib.Seq.{set-append-left}
 use Rattle.turn.specs.declared.Worker.{Worker}
 use Rattle.turn.specs.Worker.{isIdle, idle}
 use Rattle.turn.specs.Turn.{tryTurn}
@@ -15,7 +16,7 @@ use Rattle.walks.specs.declared.Walks.{Walks}
 use Rattle.walks.specs.Orders.{allIdle, noWalks, oneWalk, together}
 use Rattle.walks.specs.Walk.{threeIdle, begunBy, begun, walks}
 use Rattle.walks.proofs.Together.{together-none, together-assoc, together-rotate}
-use Rattle.walks.proofs.Counted.{Next, summed, turnThen, over}
+use Rattle.walks.proofs.Counted.{Next, summed, turnThen, walksFrom}
 
 -- ---- somebody idle at the end of a list
 
@@ -26,11 +27,6 @@ idle-more : (ws : List Worker) → allIdle (with-idle ws) ≡ allIdle ws
 unfolding allIdle
 idle-more [] = rw is-idle
 idle-more (w ∷ ws) = rw (idle-more ws)
-
-set-before : (ws vs : List Worker) (i : ℕ) (v : Worker) → i < length ws → set (ws ++ vs) i v ≡ set ws i v ++ vs
-set-before [] vs i v low = absurd (omega arith)
-set-before (w ∷ ws) vs zero v low = refl
-set-before (w ∷ ws) vs (suc i) v low = ap (λ (l : List Worker). w ∷ l) (set-before ws vs i v (omega arith))
 
 -- who is idle begins no walk
 summed-idle :
@@ -43,31 +39,23 @@ summed-idle more less k (w ∷ ws) same =
     rw (same k w (omega arith), summed-idle more less (suc k) ws (λ i v low. same i v (omega arith)))
 
 -- a class with somebody idle behind it has the same walks
-pub over-idle : (depth : ℕ) (board : List ℕ) (ws : List Worker) (lost : ℕ) → over depth board (with-idle ws) lost ≡ over depth board ws lost
-unfolding over
-over-idle zero board ws lost = rw (idle-more ws)
-over-idle (suc depth) board ws lost =
-    let next : summed (turnThen (over depth) board (with-idle ws) lost) 0 (with-idle ws) ≡ summed (turnThen (over depth) board ws lost) 0 ws =
-    summed-idle (turnThen (over depth) board (with-idle ws) lost) (turnThen (over depth) board ws lost) 0 ws (λ i w low.
+pub walksFrom-idle : (depth : ℕ) (board : List ℕ) (ws : List Worker) (lost : ℕ) → walksFrom depth board (with-idle ws) lost ≡ walksFrom depth board ws lost
+unfolding walksFrom
+walksFrom-idle zero board ws lost = rw (idle-more ws)
+walksFrom-idle (suc depth) board ws lost =
+    let next : summed (turnThen (walksFrom depth) board (with-idle ws) lost) 0 (with-idle ws) ≡ summed (turnThen (walksFrom depth) board ws lost) 0 ws =
+    summed-idle (turnThen (walksFrom depth) board (with-idle ws) lost) (turnThen (walksFrom depth) board ws lost) 0 ws (λ i w low.
     let t = tryTurn 0 board w in
     let low-is : i < length ws = omega arith in
-    rw (set-before ws (idle ∷ []) i (t .handed .worker) low-is)
-    (over-idle depth (t .words) (set ws i (t .handed .worker)) (lost + losses (t .handed .said .report .action)))) in
+    rw (set-append-left ws (idle ∷ []) i (t .handed .worker) low-is)
+    (walksFrom-idle depth (t .words) (set ws i (t .handed .worker)) (lost + losses (t .handed .said .report .action)))) in
     rw (idle-more ws, next)
 
 -- ---- three
 
 -- whether all three are idle, whoever comes first
 idle-rotate : (a b c : Worker) → threeIdle a b c ≡ threeIdle b c a
-idle-rotate a b c = by (isIdle a) (isIdle b) (isIdle c)
-  where
-    by : (t u v : Bool) → (t && (u && v)) ≡ (u && (v && t))
-    by true true true = refl
-    by true true false = refl
-    by true false v = refl
-    by false true true = refl
-    by false true false = refl
-    by false false v = refl
+idle-rotate a b c = and-comm (isIdle a) (isIdle b && isIdle c) ∙ and-assoc (isIdle b) (isIdle c) (isIdle a)
 
 pub walks-rotate : (depth : ℕ) (words : List ℕ) (a b c : Worker) (lost : ℕ) → walks depth words a b c lost ≡ walks depth words b c a lost
 unfolding walks
@@ -79,18 +67,14 @@ walks-rotate (suc depth) words a b c lost =
 
 three-idle : (a b c : Worker) → allIdle (a ∷ b ∷ c ∷ []) ≡ threeIdle a b c
 unfolding allIdle
-three-idle a b c = by (isIdle c)
-  where
-    by : (t : Bool) → (isIdle a && (isIdle b && (t && true))) ≡ (isIdle a && (isIdle b && t))
-    by true = refl
-    by false = refl
+three-idle a b c = rw (and-true (isIdle c))
 
 module _
-    (depth : ℕ) (rest : (words : List ℕ) (a b c : Worker) (lost : ℕ) → over depth words (a ∷ b ∷ c ∷ []) lost ≡ walks depth words a b c lost)
+    (depth : ℕ) (rest : (words : List ℕ) (a b c : Worker) (lost : ℕ) → walksFrom depth words (a ∷ b ∷ c ∷ []) lost ≡ walks depth words a b c lost)
     (words : List ℕ) (a b c : Worker) (lost : ℕ)
   where
     abbrev next : Next
-    next = turnThen (over depth) words (a ∷ b ∷ c ∷ []) lost
+    next = turnThen (walksFrom depth) words (a ∷ b ∷ c ∷ []) lost
 
     abbrev from : Worker → Worker → Worker → Walks
     from own other last = begunBy (walks depth) words own other last lost
@@ -98,7 +82,7 @@ module _
     begins :
         (i : ℕ) (own other last : Worker)
         → ((words : List ℕ) (w : Worker) (lost : ℕ)
-        → over depth words (set (a ∷ b ∷ c ∷ []) i w) lost ≡ walks depth words w other last lost)
+        → walksFrom depth words (set (a ∷ b ∷ c ∷ []) i w) lost ≡ walks depth words w other last lost)
         → cond (isIdle own) noWalks (next i own) ≡ from own other last
     begins i own other last same = ap (cond (isIdle own) noWalks) (same _ _ _)
 
@@ -112,7 +96,7 @@ module _
         ∙ sym (together-assoc (from a b c) (from b c a) (from c a b))
 
 -- the recursion over a list of three is the recursion on three by value
-pub over-three : (depth : ℕ) (words : List ℕ) (a b c : Worker) (lost : ℕ) → over depth words (a ∷ b ∷ c ∷ []) lost ≡ walks depth words a b c lost
-unfolding over walks
-over-three zero words a b c lost = ap (λ (t : Bool). oneWalk t lost) (three-idle a b c)
-over-three (suc depth) words a b c lost = rw (three-idle a b c, sums-three depth (over-three depth) words a b c lost)
+pub walksFrom-three : (depth : ℕ) (words : List ℕ) (a b c : Worker) (lost : ℕ) → walksFrom depth words (a ∷ b ∷ c ∷ []) lost ≡ walks depth words a b c lost
+unfolding walksFrom walks
+walksFrom-three zero words a b c lost = ap (λ (t : Bool). oneWalk t lost) (three-idle a b c)
+walksFrom-three (suc depth) words a b c lost = rw (three-idle a b c, sums-three depth (walksFrom-three depth) words a b c lost)

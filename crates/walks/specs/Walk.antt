@@ -1,5 +1,5 @@
 -- The walk as the code goes it, three records and the words of one bucket by value (§14.12). No promise of a public function goes by it: that
--- it comes to the counts over all orders is `over-counted` and `over-three`, in proofs/Counted and proofs/Three.
+-- it comes to the counts over all orders is `walksFrom-counted` and `walksFrom-three`, in proofs/Counted and proofs/Three.
 use Prim.Native.Nat.{ℕ, zero, suc, _+_, _^_, _≤_}
 use mathlib.Core.Bool.{Bool, true, cond, _&&_, _||_}
 use mathlib.Core.List.{List}
