@@ -9,7 +9,7 @@ static unsigned long compared, histories;
 /* ---- what was met, so that nobody trusts a comparison of refusals alone */
 
 static const char *const call_names[CALLS] = {"open", "start look", "start insert", "start remove", "turn", "run", "show", "count",
-    "orders"};
+    "orders", "retire"};
 
 enum { REFUSALS = DESK_NO_SMALL_CLASS + 1, NO_MORE = REFUSALS };
 
@@ -24,6 +24,7 @@ static const unsigned call_refusals[CALLS][REFUSALS + 1] = {
     [SHOW] = {0, 1, 7, NO_MORE},
     [COUNT] = {0, 1, 7, NO_MORE},
     [ORDERS] = {0, 1, 3, 7, 10, NO_MORE},
+    [RETIRE] = {0, 1, 2, 3, 6, 7, NO_MORE},
 };
 
 static unsigned long met[CALLS][REFUSALS], places[LAST_PLACE + 1], changes, lost, full;
@@ -36,9 +37,26 @@ static unsigned long elsewhere[CALLS], changed[CALLS], stopped_later;
    more than one swap */
 static unsigned long classes[MOST_IN_CLASS + 1], finished, cut, lost_in_walks, lost_more;
 
+/* retirings, by the place of the call that was dropped, of those that hold no slot and of those that do; of these last by the mark that
+   stood there, and those whose version came round; and of the others those whose bucket was broken, which nobody asks about */
+static unsigned long retired[LAST_PLACE + 1], freed[LAST_PLACE + 1], freed_mark[DESK_MARK_INSERTING + 1], freed_round, over_broken;
+
 static bool missing(const char *what, unsigned number, unsigned long times) {
     if (times == 0) printf("never met: %s %u\n", what, number);
     return times == 0;
+}
+
+/* an insert holds a slot at places 1 to 5 or does not, never at 6, and always at 7 to 10; nobody else holds one */
+static bool lacks_retirings(void) {
+    bool lacks = false;
+    for (unsigned place = 1; place <= LAST_PLACE; place++) {
+        if (place < 7 || place > 10) lacks |= missing("nothing held and retired at place", place, retired[place]);
+        if (place < 11 && place != 6) lacks |= missing("a slot held and retired at place", place, freed[place]);
+    }
+    for (unsigned mark = 0; mark <= DESK_MARK_INSERTING; mark++) lacks |= missing("a retiring over mark", mark, freed_mark[mark]);
+    lacks |= missing("a retiring that takes the version to", 0, freed_round);
+    lacks |= missing("retirings with nothing held over a broken bucket over", 0, over_broken);
+    return lacks;
 }
 
 bool met_everything(void) {
@@ -59,6 +77,7 @@ bool met_everything(void) {
     lacks |= missing("finished walks over", 0, finished);
     lacks |= missing("cut walks over", 0, cut);
     lacks |= missing("lost swaps in one walk over", 1, lost_more);
+    lacks |= lacks_retirings();
     printf("%lu calls of %lu histories compared, with no difference; runs had %lu changes, %lu lost swaps, %lu full rounds; of all orders "
            "%lu were finished and %lu cut, with %lu lost swaps\n",
         compared, histories, changes, lost, full, finished, cut, lost_in_walks);
@@ -84,6 +103,7 @@ static const char *const answer_names[CALLS][MOST_NUMBERS] = {
     [SHOW] = {"refusal", "start", "words"},
     [COUNT] = {"refusal", "lots"},
     [ORDERS] = {"refusal", "finished", "cut", "lost", "most"},
+    [RETIRE] = {"refusal"},
 };
 
 /* the caller passes the floor on that was handed back, so what is in the hall is also compared */
@@ -111,6 +131,10 @@ static answer of_orders(desk_orders_outcome o) {
     return (answer){{o.refusal, o.finished, o.cut, o.lost, o.most}};
 }
 
+static answer retire(const side *s, hall *h, size_t worker) {
+    return (answer){{s->retire(h->board, h->words, h->records, h->listed, h->floor, worker)}};
+}
+
 static answer show(const side *s, const hall *h, uint64_t lot) {
     desk_part part = s->show(h->board, h->words, h->floor, lot);
     return (answer){{s->show_refusal(h->board, h->words, h->floor, lot), part.start, part.words}};
@@ -127,7 +151,8 @@ static answer make_on(const side *s, hall *h, const call *c) {
     case RUN: return of_run(s->run(h->board, h->words, h->records, h->listed, h->floor, c->turns, c->count));
     case SHOW: return show(s, h, c->lot);
     case COUNT: return of_count(s->count(h->board, h->words, h->floor));
-    default: return of_orders(s->orders(h->board, h->words, h->records, h->listed, h->floor, c->depth));
+    case ORDERS: return of_orders(s->orders(h->board, h->words, h->records, h->listed, h->floor, c->depth));
+    default: return retire(s, h, c->worker);
     }
 }
 
@@ -206,9 +231,44 @@ static void note_orders(const hall *h, const answer *a) {
     lost_more += a->number[4] > 1;
 }
 
-static void note(const call *c, const hall *h, const answer *a, unsigned place) {
+/* what a call finds: its worker's record, and the mark word and the spare word of that one's bucket */
+typedef struct {
+    desk_worker worker;
+    uint64_t word, spare;
+} found;
+
+static found find(const hall *h, const call *c) {
+    found f = {.worker = {.held = HOLDS_NONE}};
+    if (c->worker < h->listed) f.worker = h->records[c->worker];
+    size_t bucket = desk_bucket(f.worker.key, h->floor.buckets);
+    if (bucket < MOST_BUCKETS) f.word = h->board[BUCKET_WORDS * bucket], f.spare = h->board[BUCKET_WORDS * bucket + DESK_AT_SPARE];
+    return f;
+}
+
+static bool marks_are_broken(uint64_t word) {
+    for (size_t slot = 0; slot < SLOTS; slot++)
+        if (desk_mark(word, slot) > DESK_MARK_INSERTING) return true;
+    return word >> 56 != 0;
+}
+
+/* of one that is done */
+static void note_retiring(const found *f) {
+    unsigned place = f->worker.place;
+    if (f->worker.held == HOLDS_NONE) {
+        retired[place]++;
+        over_broken += marks_are_broken(f->word) || f->spare != 0;
+        return;
+    }
+    freed[place]++;
+    freed_mark[desk_mark(f->word, f->worker.held)]++;
+    freed_round += desk_version(f->word) == 0xffffffff;
+}
+
+static void note(const call *c, const hall *h, const answer *a, const found *f) {
+    unsigned place = f->worker.place;
     met[c->which][a->number[0] % REFUSALS]++;
     if (c->which == ORDERS) note_orders(h, a);
+    if (c->which == RETIRE && a->number[0] == 0) note_retiring(f);
     if (c->which == TURN) {
         if (a->number[0] == 0 && place <= LAST_PLACE) places[place]++;
         note_report(TURN, a->number + REPORT_OF_TURN);
@@ -223,7 +283,7 @@ static void note(const call *c, const hall *h, const answer *a, unsigned place) 
 }
 
 uint8_t make(pair *p, const call *c) {
-    unsigned place = c->worker < p->desk.listed ? p->desk.records[c->worker].place : 0;
+    found f = find(&p->desk, c);
     answer desk = make_on(&proved, &p->desk, c), plain = make_on(&by_hand, &p->plain, c);
     compare_answers(c->which, &desk, &plain);
     if (c->which == ORDERS) {
@@ -233,6 +293,6 @@ uint8_t make(pair *p, const call *c) {
     compare_halls(&p->desk, &p->plain);
     stop_at_difference(p, c);
     compared++;
-    note(c, &p->desk, &desk, place);
+    note(c, &p->desk, &desk, &f);
     return (uint8_t)desk.number[0];
 }

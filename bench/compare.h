@@ -4,7 +4,7 @@
 
 #include "side.h"
 
-typedef enum { OPEN, START_LOOK, START_INSERT, START_REMOVE, TURN, RUN, SHOW, COUNT, ORDERS, CALLS } which;
+typedef enum { OPEN, START_LOOK, START_INSERT, START_REMOVE, TURN, RUN, SHOW, COUNT, ORDERS, RETIRE, CALLS } which;
 
 /* each call takes of these what it needs */
 typedef struct {

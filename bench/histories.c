@@ -61,6 +61,16 @@ static size_t some_depth(chance *c, const hall *h) {
     return 1 + below(c, busy > MOST_IN_CLASS ? MOST_DEPTH : deepest[busy]);
 }
 
+/* the first from a random one on that holds a slot; any where there is none */
+static size_t worker_who_holds(chance *c, const hall *h) {
+    size_t from = below(c, h->floor.workers);
+    for (size_t i = 0; i < h->floor.workers; i++) {
+        size_t worker = (from + i) % h->floor.workers;
+        if (h->records[worker].held != HOLDS_NONE) return worker;
+    }
+    return from;
+}
+
 /* ---- histories of an opened board */
 
 static desk_plan some_plan(chance *c) {
@@ -100,11 +110,20 @@ static void run_some(chance *c) {
     make(&halls, &(call){.which = RUN, .turns = turns, .count = count});
 }
 
+/* mostly somebody who is busy, and then often one who holds a slot */
+static void retire_some(chance *c) {
+    const hall *h = &halls.desk;
+    size_t worker = now_and_then(c, 50) ? worker_who_holds(c, h) : worker_who(c, h, false);
+    if (now_and_then(c, 10)) worker = some_worker(c, h->floor.workers);
+    make(&halls, &(call){.which = RETIRE, .worker = worker});
+}
+
 static void call_some(chance *c) {
     uint64_t pick = below(c, 100);
     if (pick < 30) start_some(c);
     else if (pick < 65) turn_some(c);
-    else if (pick < 90) run_some(c);
+    else if (pick < 87) run_some(c);
+    else if (pick < 90) retire_some(c);
     else if (pick < 93) make(&halls, &(call){.which = SHOW, .lot = some_lot(c, halls.desk.floor.buckets)});
     else if (pick < 96) make(&halls, &(call){.which = COUNT});
     else make(&halls, &(call){.which = ORDERS, .depth = some_depth(c, &halls.desk)});
@@ -210,7 +229,8 @@ static void spoil_sizes(chance *c, hall *h) {
 
 static call any_call(chance *c, const hall *h) {
     call made = {.turns = turns};
-    made.which = (which)ONE_OF(c, START_LOOK, START_INSERT, START_REMOVE, TURN, TURN, TURN, RUN, RUN, SHOW, COUNT, ORDERS, ORDERS);
+    made.which = (which)ONE_OF(c, START_LOOK, START_INSERT, START_REMOVE, TURN, TURN, TURN, RUN, RUN, SHOW, COUNT, ORDERS, ORDERS, RETIRE,
+        RETIRE);
     if (now_and_then(c, 4)) made.which = OPEN;
     made.plan = (desk_plan){.workers = h->floor.workers, .buckets = h->floor.buckets, .version = some_version(c)};
     if (now_and_then(c, 50)) made.plan = some_plan(c);
@@ -234,7 +254,7 @@ static void wild_history(chance *c, uint64_t seed, uint64_t history) {
     }
 }
 
-/* ---- every record, as far as its small fields go: all orders, a turn, and then a start on the same */
+/* ---- every record, as far as its small fields go: all orders, a turn, a retiring, and then a start on the same */
 
 static void try_record(chance *c, desk_worker w) {
     hall *h = &halls.desk;
@@ -243,6 +263,8 @@ static void try_record(chance *c, desk_worker w) {
     h->records[0] = halls.plain.records[0] = w;
     make(&halls, &(call){.which = ORDERS, .depth = some_depth(c, h)});
     make(&halls, &(call){.which = TURN, .worker = 0});
+    h->records[0] = halls.plain.records[0] = w;
+    make(&halls, &(call){.which = RETIRE, .worker = 0});
     h->records[0] = halls.plain.records[0] = w;
     make(&halls, &(call){.which = START_REMOVE, .worker = 0, .lot = 5});
 }

@@ -43,6 +43,21 @@ static void idle_scene(stage *g, size_t buckets, size_t workers) {
     g->scenes[0].count = 0;
 }
 
+/* Every worker has claimed slot 1 of its bucket and is about to commit. A retiring leaves no mark there, and counts the version on; for the
+   next one on the same bucket that makes no difference, so only the record has to be put back. */
+static void holders_scene(stage *g, size_t buckets, size_t workers) {
+    hall *h = &g->scenes[0].first;
+    fill_board(h, buckets, 1);
+    send_idle(h, workers);
+    for (size_t number = 0; number < buckets; number++) h->board[BUCKET_WORDS * number] |= (uint64_t)DESK_MARK_INSERTING << 40;
+    for (size_t i = 0; i < workers; i++) {
+        start(h, i, INSERT, SLOTS * buckets + i % buckets);
+        h->records[i].place = 9;
+        h->records[i].held = 1;
+        h->records[i].word = h->board[BUCKET_WORDS * (i % buckets)];
+    }
+}
+
 /* Every bucket is full, and every worker inserts one more lot: they go round for ever, so a run can be of any length and its turns are
    all accepted. The board stays as it is, and a record comes round with every tenth turn, so nothing has to be put back. */
 static void full_scene(stage *g, size_t buckets, size_t workers) {
@@ -190,6 +205,15 @@ static void repeat_start_remove(const side *s, stage *g, size_t repeats) {
     }
 }
 
+static void repeat_retire(const side *s, stage *g, size_t repeats) {
+    hall *h = &g->now;
+    const hall *first = &g->scenes[0].first;
+    for (size_t worker = 0; repeats > 0; repeats--, worker = next_worker(h, worker)) {
+        h->records[worker] = first->records[worker];
+        if (s->retire) s->retire(h->board, h->words, h->records, h->listed, h->floor, worker);
+    }
+}
+
 static void repeat_open(const side *s, stage *g, size_t repeats) {
     hall *h = &g->now;
     desk_plan plan = {.workers = h->floor.workers, .buckets = h->floor.buckets, .version = 7};
@@ -265,6 +289,7 @@ const operation operations[OPERATIONS] = {
     {"start-look", "call", idle_scene, repeat_start_look, one, 64, THREE_SIZES},
     {"start-insert", "call", idle_scene, repeat_start_insert, one, 64, THREE_SIZES},
     {"start-remove", "call", idle_scene, repeat_start_remove, one, 64, THREE_SIZES},
+    {"retire", "call", holders_scene, repeat_retire, one, 64, THREE_SIZES},
     {"open", "call", idle_scene, repeat_open, one, 8, THREE_SIZES},
     {"empty-run", "call", idle_scene, repeat_run, one, 64, THREE_SIZES},
     {"count", "call", idle_scene, repeat_count, one, 8, THREE_SIZES},

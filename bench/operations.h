@@ -39,7 +39,7 @@ typedef struct {
     sizes sizes;
 } operation;
 
-enum { OPERATIONS = 14 };
+enum { OPERATIONS = 15 };
 extern const operation operations[OPERATIONS];
 
 /* sets a stage up for an operation, and puts it back where that left it before */

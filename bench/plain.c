@@ -113,6 +113,24 @@ desk_run_outcome plain_run(uint64_t *board, size_t words, desk_worker *records, 
     return run;
 }
 
+/* ---- retiring */
+
+/* the mark goes and the version counts on in one store; where nothing is held the bucket is not even looked at */
+uint8_t plain_retire(uint64_t *board, size_t words, desk_worker *records, size_t listed, desk_floor floor, size_t worker) {
+    if (!hall_fits(words, listed, floor.workers, floor.buckets)) return DESK_WRONG_SIZES;
+    if (worker >= listed) return DESK_NO_WORKER;
+    desk_worker *w = &records[worker];
+    if (broken_record(w)) return DESK_BROKEN_RECORD;
+    if (w->kind == IDLE) return DESK_IDLE_WORKER;
+    if (w->held != HOLDS_NONE) {
+        uint64_t *bucket = board + bucket_start(w->key, floor.buckets);
+        if (broken_bucket(bucket)) return DESK_BROKEN_BUCKET;
+        bucket[MARKS] = with_next_version(with_mark(bucket[MARKS], w->held, EMPTY));
+    }
+    *w = idle_record;
+    return 0;
+}
+
 /* ---- showing and counting */
 
 uint8_t plain_show_refusal(const uint64_t *board, size_t words, desk_floor floor, uint64_t lot) {

@@ -19,6 +19,8 @@ desk_turn_outcome plain_turn(uint64_t *board, size_t words, desk_worker *records
 desk_run_outcome plain_run(uint64_t *board, size_t words, desk_worker *records, size_t listed, desk_floor floor,
     const uint8_t *turns, size_t count);
 
+uint8_t plain_retire(uint64_t *board, size_t words, desk_worker *records, size_t listed, desk_floor floor, size_t worker);
+
 desk_part plain_show(const uint64_t *board, size_t words, desk_floor floor, uint64_t lot);
 uint8_t plain_show_refusal(const uint64_t *board, size_t words, desk_floor floor, uint64_t lot);
 

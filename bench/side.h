@@ -12,6 +12,7 @@ typedef struct {
     desk_outcome (*start_remove)(const uint64_t *, size_t, desk_worker *, size_t, desk_floor, size_t, uint64_t);
     desk_turn_outcome (*turn)(uint64_t *, size_t, desk_worker *, size_t, desk_floor, size_t);
     desk_run_outcome (*run)(uint64_t *, size_t, desk_worker *, size_t, desk_floor, const uint8_t *, size_t);
+    uint8_t (*retire)(uint64_t *, size_t, desk_worker *, size_t, desk_floor, size_t);
     desk_part (*show)(const uint64_t *, size_t, desk_floor, uint64_t);
     uint8_t (*show_refusal)(const uint64_t *, size_t, desk_floor, uint64_t);
     desk_count_outcome (*count)(const uint64_t *, size_t, desk_floor);

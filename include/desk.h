@@ -2,7 +2,7 @@
 
    Board, worker records and floor are the caller's own memory. desk_open_floor makes them ready; a start gives an idle worker a call to
    do, a look, an insert or a remove; each desk_turn then does one memory action of that call, and is given again until it says that the
-   call has ended. README.md, under "From C", has a whole program and how it is built.
+   call has ended. A worker that will not go on is retired. README.md, under "From C", has a whole program and how it is built.
 
    What is asked of the caller: a pointer has as many words, records or turns behind it as the number after it says, and what a function
    may write to overlaps nothing else that it is given. Where that number is 0 the pointer may be NULL: an empty run is
@@ -61,9 +61,10 @@ enum {
                                 orders it can be any worker's record */
     DESK_BUSY_WORKER = 4,    /* a start for a worker whose last call has not ended */
     DESK_SPENT_TICKET = 5,   /* an insert's ticket has to be greater than all before it; so 0 never is a ticket */
-    DESK_IDLE_WORKER = 6,    /* a turn for a worker that has no call */
+    DESK_IDLE_WORKER = 6,    /* a turn for a worker that has no call, or a retiring of one */
     DESK_BROKEN_BUCKET = 7,  /* the lot's bucket has a mark over 2, something above the marks, or a spare word that is not 0. For a
-                                count it can be any bucket; for all orders it is the only one, also where nobody is busy */
+                                retiring only where the worker holds a slot; for a count it can be any bucket; for all orders it is the
+                                only one, also where nobody is busy */
     DESK_MALFORMED = 8,      /* a sheet that cannot be read: the number is the rostrum's, and no call here gives it */
     DESK_TOO_LONG = 9,       /* a run of more than DESK_MOST_TURNS */
     DESK_NO_SMALL_CLASS = 10 /* all orders, of more than one bucket, of more than DESK_MOST_IN_CLASS workers, or to a depth of 0 or of
@@ -94,7 +95,8 @@ enum {
    What stands in a slot counts only where its mark is valid; a closed lot leaves its number and its ticket behind in an empty slot. In
    the mark word, from the low end, the bits
 
-     0 to 31    are the version: each insert that commits adds one to it, and 0 comes after 2^32 - 1
+     0 to 31    are the version: each insert that commits adds one to it, and each retiring that gives a slot back; 0 comes after
+                2^32 - 1
      32 to 39   are the mark of slot 0
      40 to 47   are the mark of slot 1
      48 to 55   are the mark of slot 2
@@ -148,10 +150,11 @@ typedef struct {
 } desk_outcome;
 
 /* What a turn that is done reports. `before` and `after` are the mark word of its bucket, whichever word of it the turn was about. On an
-   opened board the `before` of a turn is the `after` of the last turn before it in that bucket, whoever had it, or the opening's word; the
-   two of one turn differ just where it changed the mark word (a swap that was won, or a claimed slot given back). A swap is won where its
-   `before` is the `after` of its worker's last turn that read the mark word whole or changed it, and else lost; the last turn before a lost
-   swap whose two words differ, in that bucket, is another worker's, and the one that made it lose. */
+   opened board the `before` of a turn is the `after` of the last turn before it in that bucket, whoever had it, or the opening's word; a
+   retiring between them that gives a slot back of that bucket has changed it, and reports nothing (see desk_retire). The two of one turn
+   differ just where it changed the mark word (a swap that was won, or a claimed slot given back). A swap is won where its `before` is the
+   `after` of its worker's last turn that read the mark word whole or changed it, and else lost; the last before a lost swap to change that
+   word, a turn whose two words differ or such a retiring, is another worker's, and what made it lose. */
 typedef struct {
     uint64_t answer; /* of a call that ended: a look's and a remove's is the lot's ticket, or 0 where the lot is not there; an
                         insert's is 1, or 0 where the lot is there already */
@@ -172,7 +175,7 @@ typedef struct {
 /* What turns add up to. */
 typedef struct {
     uint32_t turns;   /* that were done */
-    uint32_t changes; /* of a mark word: a swap that was won, or a claimed slot given back */
+    uint32_t changes; /* of a mark word by these turns: a swap that was won, or a claimed slot given back */
     uint32_t lost;    /* swaps */
     uint32_t full;    /* rounds in which an insert found no empty slot */
 } desk_totals;
@@ -225,10 +228,21 @@ desk_outcome desk_start_remove(const uint64_t *board, size_t words, desk_worker 
     size_t worker, uint64_t lot);
 
 /* Does the next memory action of a worker's call. On an opened board a busy worker's turn is never refused, and a look takes 4 to 10 turns,
-   whatever others do. While no other worker has a turn a remove takes 6 at most, and an insert 13, if a slot of its bucket is empty when it
-   starts, or is valid with its lot. Any other insert goes round, and reports it by `full` each time, until somebody else changes that
-   bucket: whoever gives turns to one worker alone, until the call has ended, looks at that too. */
+   whatever others do. While no other worker has a turn, and none that holds a slot is retired, a remove takes 6 at most, and an insert 13, if
+   a slot of its bucket is empty when it starts, or is valid with its lot. Any other insert goes round, and reports it by `full` each time,
+   until somebody else changes that bucket: whoever gives turns to one worker alone, until the call has ended, looks at that too. */
 desk_turn_outcome desk_turn(uint64_t *board, size_t words, desk_worker *records, size_t listed, desk_floor floor, size_t worker);
+
+/* Retires a worker that is at a call and will not go on: its record becomes idle, and its call has no answer and is never done. If it held
+   a slot, that slot's mark becomes DESK_MARK_EMPTY, whatever it was, and the version of its bucket goes on by one, both in one act; if it
+   held none, its bucket is not looked at. Nothing else is touched; the floor stays as it is, and the ticket of a retired insert stays spent.
+   A retiring is no turn: it reports nothing and is in no totals. On an opened board whoever is busy can be retired, and the mark word that
+   the commit of a retired insert would have expected never stands in its bucket again, however the board is used from then on. For a
+   container that comes back after all that is one lost swap, and no leave to go on with its old record: it begins a new call.
+
+   Answers DESK_DONE, or why it is refused: DESK_WRONG_SIZES, DESK_NO_WORKER, DESK_BROKEN_RECORD, DESK_IDLE_WORKER and DESK_BROKEN_BUCKET are
+   looked at in this order, the last only where a slot is held. */
+uint8_t desk_retire(uint64_t *board, size_t words, desk_worker *records, size_t listed, desk_floor floor, size_t worker);
 
 /* Does `count` turns, each for the worker whose number stands in `turns`, and stops before the first that is refused; those before it
    are done. It has the report of the last turn done, and not of those before: which turn ended a call it tells of the last one alone. A

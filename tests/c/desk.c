@@ -1,6 +1,6 @@
 /* The library from C: every field where C reads it, the sleeper by single turns and by one run, a show and a count with the header's own
-   readers, what the screen shows of an insert turn by turn, what is reported (reports.c), all orders (orders.c), every refusal
-   (refusals.c), and a full round. Says what is not as it should be, and how many checks were made. */
+   readers, what the screen shows of an insert turn by turn, what is reported (reports.c), all orders (orders.c), retirings (retire.c),
+   every refusal (refusals.c), and a full round. Says what is not as it should be, and how many checks were made. */
 #include "hall.h"
 #include <stdio.h>
 
@@ -361,6 +361,7 @@ int main(void) {
     test_screen();
     test_reports();
     test_orders();
+    test_retire();
     test_refusals();
     test_full_round();
     test_lengths();

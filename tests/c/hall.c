@@ -1,7 +1,7 @@
 #include "hall.h"
 
 hall one, two, before;
-static hall singly, unwalked;
+static hall singly, unwalked, unretired;
 uint8_t many[ROOM_FOR_TURNS];
 const desk_report refused_report = {.action = DESK_NONE}, no_turn = {.action = DESK_READ};
 
@@ -98,6 +98,32 @@ desk_run_outcome run(hall *h, const uint8_t *turns, size_t count) {
 
 bool counts(desk_run_outcome r, uint32_t turns, uint32_t changes, uint32_t lost, uint32_t full, uint8_t stop) {
     return r.totals.turns == turns && r.totals.changes == changes && r.totals.lost == lost && r.totals.full == full && r.stop == stop;
+}
+
+/* a mark word without the mark of a slot, and of the next version */
+static uint64_t without_mark(uint64_t word, size_t slot) {
+    uint64_t marks = 0;
+    for (size_t i = 0; i < DESK_SLOTS; i++)
+        if (i != slot) marks |= (uint64_t)desk_mark(word, i) << (32 + 8 * i);
+    return marks | (uint32_t)(desk_version(word) + 1);
+}
+
+/* what a retiring that is done has to make of a hall */
+static void expect_retired(hall *h, size_t worker) {
+    desk_worker *w = &h->records[worker];
+    if (w->held != DESK_NO_SLOT) {
+        uint64_t *bucket = h->board + DESK_BUCKET_WORDS * desk_bucket(w->key, h->floor.buckets);
+        bucket[DESK_AT_MARK] = without_mark(bucket[DESK_AT_MARK], w->held);
+    }
+    *w = desk_idle_record();
+}
+
+uint8_t retire(hall *h, size_t worker) {
+    copy_hall(&unretired, h);
+    uint8_t refusal = desk_retire(h->board, h->words, h->records, h->listed, h->floor, worker);
+    if (refusal == DESK_DONE) expect_retired(&unretired, worker);
+    CHECK(same_hall(h, &unretired));
+    return refusal;
 }
 
 desk_orders_outcome orders(const hall *h, size_t depth) {

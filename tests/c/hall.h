@@ -1,5 +1,5 @@
 /* A hall: a floor with the board and the records that belong to it, and the library's calls on it. For the program that checks them, which
-   is desk.c, reports.c, orders.c and refusals.c. */
+   is desk.c, reports.c, orders.c, retire.c and refusals.c. */
 #ifndef HALL_H
 #define HALL_H
 
@@ -37,13 +37,15 @@ void fill(hall *h);
 void opened(hall *h, size_t workers, size_t buckets, uint32_t version);
 
 /* The calls; each keeps the floor that comes back. Of a turn that is done the report's bucket is held to the lot, and its two words to the
-   board; of a run the last report and all that it leaves to the same turns one by one; and all orders to changing nothing. */
+   board; of a run the last report and all that it leaves to the same turns one by one; a retiring to what it may change, and to changing
+   nothing where it is refused; and all orders to changing nothing. */
 uint8_t open_hall(hall *h, size_t workers, size_t buckets, uint32_t version);
 uint8_t start_look(hall *h, size_t worker, uint64_t lot);
 uint8_t start_insert(hall *h, size_t worker, uint64_t lot, uint32_t ticket);
 uint8_t start_remove(hall *h, size_t worker, uint64_t lot);
 desk_turn_outcome turn(hall *h, size_t worker);
 desk_run_outcome run(hall *h, const uint8_t *turns, size_t count);
+uint8_t retire(hall *h, size_t worker);
 desk_orders_outcome orders(const hall *h, size_t depth);
 
 /* Whether a run came to these numbers. */
@@ -52,9 +54,10 @@ bool counts(desk_run_outcome r, uint32_t turns, uint32_t changes, uint32_t lost,
 /* Whether all orders came to these numbers, and were not refused. */
 bool walked(desk_orders_outcome o, uint64_t finished, uint64_t cut, uint64_t lost, uint64_t most);
 
-/* The checks of reports.c, of orders.c and of refusals.c. */
+/* The checks of reports.c, of orders.c, of retire.c and of refusals.c. */
 void test_reports(void);
 void test_orders(void);
+void test_retire(void);
 void test_refusals(void);
 
 #endif

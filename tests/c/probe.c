@@ -197,7 +197,8 @@ static void call(unsigned which, uint64_t worker, uint64_t lot, uint32_t ticket)
     case 5: run_outcome(desk_run(board, words, records, listed, floor, turns, count)); break;
     case 6: show_outcome(lot); break;
     case 7: count_outcome(desk_count(board, words, floor)); break;
-    default: orders_outcome(desk_orders(board, words, records, listed, floor, worker)); break;
+    case 8: orders_outcome(desk_orders(board, words, records, listed, floor, worker)); break;
+    default: printf("retire %x", desk_retire(board, words, records, listed, floor, worker)); break;
     }
 }
 
@@ -206,7 +207,7 @@ int main(void) {
     while (fread(head, 1, 2, stdin) == 2) {
         length = fread(body, 1, (size_t)head[0] << 8 | head[1], stdin);
         next = 0;
-        unsigned which = (unsigned)byte() % 9;
+        unsigned which = (unsigned)byte() % 10;
         floor.workers = number();
         floor.buckets = number();
         floor.last = (uint32_t)number();

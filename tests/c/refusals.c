@@ -51,6 +51,8 @@ static void all_give_1(bool board_too) {
     REFUSED(DESK_WRONG_SIZES, refused_run(many, ROOM_FOR_TURNS));
     REFUSED(DESK_WRONG_SIZES, refused_orders(1));
     REFUSED(DESK_WRONG_SIZES, refused_orders(0));
+    REFUSED(DESK_WRONG_SIZES, retire(&one, 0));
+    REFUSED(DESK_WRONG_SIZES, retire(&one, SIZE_MAX));
     if (board_too) {
         REFUSED(DESK_WRONG_SIZES, refused_show(7));
         REFUSED(DESK_WRONG_SIZES, refused_count());
@@ -101,6 +103,8 @@ static void test_workers(void) {
     REFUSED(DESK_NO_WORKER, refused_turn(64));
     REFUSED(DESK_NO_WORKER, refused_run(&sixty_four, 1));
     REFUSED(DESK_NO_WORKER, refused_run(&all, 1));
+    static const size_t nobody[] = {64, 65, 127, 256, 4294967296u, 4294967359u, SIZE_MAX};
+    for (size_t i = 0; i < sizeof nobody / sizeof nobody[0]; i++) REFUSED(DESK_NO_WORKER, retire(&one, nobody[i]));
 }
 
 static void test_records(void) {
@@ -112,9 +116,11 @@ static void test_records(void) {
     REFUSED(DESK_BROKEN_RECORD, start_remove(&one, 0, 7));
     REFUSED(DESK_BROKEN_RECORD, refused_turn(0));
     REFUSED(DESK_BROKEN_RECORD, refused_run(&first, 1));
+    REFUSED(DESK_BROKEN_RECORD, retire(&one, 0));
     CHECK(start_remove(&one, 1, 5) == DESK_DONE);
     one.records[1].place = 14;
     REFUSED(DESK_BROKEN_RECORD, refused_turn(1));
+    REFUSED(DESK_BROKEN_RECORD, retire(&one, 1));
     REFUSED(DESK_BROKEN_RECORD, refused_run(&second, 1));
 }
 
@@ -130,6 +136,7 @@ static void test_calls(void) {
     REFUSED(DESK_SPENT_TICKET, start_insert(&one, 1, 7, 4));
     REFUSED(DESK_IDLE_WORKER, refused_turn(1));
     REFUSED(DESK_IDLE_WORKER, refused_run(&second, 1));
+    REFUSED(DESK_IDLE_WORKER, retire(&one, 1));
     REFUSED(DESK_TOO_LONG, refused_run(many, ROOM_FOR_TURNS));
     REFUSED(DESK_DONE, refused_run(many, 0));
 
@@ -139,6 +146,7 @@ static void test_calls(void) {
     REFUSED(DESK_BROKEN_BUCKET, refused_show(7));
     REFUSED(DESK_BROKEN_BUCKET, refused_count());
     REFUSED(DESK_IDLE_WORKER, refused_turn(1)); /* which comes first */
+    REFUSED(DESK_IDLE_WORKER, retire(&one, 1));
     CHECK(start_look(&one, 1, 7) == DESK_DONE);
 }
 
@@ -259,6 +267,54 @@ static void test_order_in_class(void) {
     REFUSED(DESK_NO_SMALL_CLASS, refused_orders(1));
 }
 
+/* ---- a retiring: each way to break a bucket, where a slot is held and where none is; and which reason comes first */
+
+/* an insert of an odd lot, about to commit, and another that holds nothing; both in the second bucket of two */
+static void opened_with_holder(void) {
+    opened(&one, 2, 2, 9);
+    one.board[8] = 0x0000010200000009u;
+    one.records[0] = (desk_worker){.key = 5, .word = one.board[8], .ticket = 1, .kind = DESK_INSERT, .place = 9, .held = 0};
+    one.records[1] = (desk_worker){.key = 7, .word = one.board[8], .ticket = 2, .kind = DESK_INSERT, .place = 6, .slot = 2, .held = 3};
+}
+
+/* whoever holds a slot is not retired while its bucket is broken, and whoever holds none is */
+static void broken_under_retiring(size_t at, uint64_t with) {
+    uint8_t number = at < DESK_BUCKET_WORDS ? DESK_DONE : DESK_BROKEN_BUCKET;
+    opened_with_holder();
+    one.board[at] = with;
+    CHECK(retire(&one, 1) == DESK_DONE);
+    CHECK(retire(&one, 0) == number);
+}
+
+static void test_broken_under_retiring(void) {
+    static const uint64_t words[] = {3ull << 32, 4ull << 40, 255ull << 48, 1ull << 56, 1ull << 63};
+    for (size_t i = 0; i < sizeof words / sizeof words[0]; i++) {
+        broken_under_retiring(8 + DESK_AT_MARK, words[i]);
+        broken_under_retiring(DESK_AT_MARK, words[i]); /* in the bucket of the even lots, which is nobody's */
+    }
+    broken_under_retiring(8 + DESK_AT_SPARE, 1);
+    broken_under_retiring(8 + DESK_AT_SPARE, 1ull << 63);
+    broken_under_retiring(DESK_AT_SPARE, 1);
+}
+
+/* everything is wrong, and then one thing less after another */
+static void test_order_of_retiring(void) {
+    opened_with_holder();
+    one.board[8 + DESK_AT_SPARE] = 1;
+    one.records[0].slot = 3;
+    one.listed = 1;
+    REFUSED(DESK_WRONG_SIZES, retire(&one, 2));
+    REFUSED(DESK_WRONG_SIZES, retire(&one, 0));
+    one.listed = 2;
+    REFUSED(DESK_NO_WORKER, retire(&one, 2));
+    REFUSED(DESK_BROKEN_RECORD, retire(&one, 0));
+    one.records[0].slot = 0;
+    REFUSED(DESK_BROKEN_BUCKET, retire(&one, 0));
+    one.board[8 + DESK_AT_SPARE] = 0;
+    CHECK(retire(&one, 0) == DESK_DONE);
+    REFUSED(DESK_IDLE_WORKER, retire(&one, 0));
+}
+
 /* a run whose ninth turn of twenty is refused by `number` has done eight, keeps the report of the eighth and tells that number */
 static void stops(uint8_t number, uint8_t ninth) {
     static const desk_report claim = {.before = 9, .after = 8589934601u, .bucket = 1, .action = DESK_WON};
@@ -308,6 +364,9 @@ static void test_nothing(void) {
     CHECK(r.stop == DESK_WRONG_SIZES && same_report(r.last, no_turn));
     CHECK(desk_show_refusal(NULL, 0, none, 7) == DESK_WRONG_SIZES);
     CHECK(desk_count(NULL, 0, none).refusal == DESK_WRONG_SIZES);
+    CHECK(desk_retire(NULL, 0, NULL, 0, none, 0) == DESK_WRONG_SIZES);
+    CHECK(desk_retire(one.board, 8, NULL, 0, one.floor, 0) == DESK_WRONG_SIZES);
+    CHECK(desk_retire(NULL, 0, one.records, 2, one.floor, 0) == DESK_WRONG_SIZES);
     CHECK(desk_orders(NULL, 0, NULL, 0, none, 1).refusal == DESK_WRONG_SIZES);
     CHECK(desk_orders(NULL, 0, one.records, 2, one.floor, 1).refusal == DESK_WRONG_SIZES);
     CHECK(desk_orders(one.board, 8, NULL, 0, one.floor, 1).refusal == DESK_WRONG_SIZES);
@@ -323,6 +382,8 @@ void test_refusals(void) {
     test_broken_in_class();
     test_broken_bucket_of_class();
     test_order_in_class();
+    test_broken_under_retiring();
+    test_order_of_retiring();
     test_stops();
     test_nothing();
 }

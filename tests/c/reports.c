@@ -1,5 +1,5 @@
 /* What a turn reports and what a run keeps of it: each field where C reads it, the reports around a slot that is given back, and what
-   desk.h says of the words in them, for a thousand turns in no order. */
+   desk.h says of the words in them, for twenty thousand turns in no order and retirings between them. */
 #include "hall.h"
 
 /* ---- each field with a value of its own: a lot closed in the last of 256 buckets, by a turn and as the last turn of a run */
@@ -103,16 +103,18 @@ static void test_giving_back(void) {
     CHECK(same_report(turns_of(&one, 0, 1), last));
 }
 
-/* ---- turns in no order, on an opened board: the reports of a bucket are a chain, the two words differ after a change and after nothing
-   else, whether a swap wins can be told from the words, and a swap is never lost to a change of its own worker */
+/* ---- turns in no order and retirings between them, on an opened board: the reports of a bucket are a chain, in which a retiring with a
+   held slot has its place though it reports nothing; the two words differ after a change and after nothing else, whether a swap wins can be
+   told from the words, and a swap is never lost to a change of its own worker */
 
-enum { WORKERS = 4, BUCKETS = 3, LOTS = 12, TURNS = 1000, FIRST_VERSION = 7 };
+enum { WORKERS = 6, BUCKETS = 3, LOTS = 9, TURNS = 20000, FIRST_VERSION = 7 };
 
 typedef struct {
     uint64_t word[BUCKETS];   /* that the last report of the bucket left */
     uint64_t moment[WORKERS]; /* that the worker's last turn left which read the mark word whole or changed it */
-    size_t changer[BUCKETS];  /* whose turn it was that last reported two words that differ; nobody's is WORKERS */
-    unsigned won, lost, full, given_back;
+    size_t changer[BUCKETS];  /* whose turn it was that last reported two words that differ, or who was retired later; nobody is WORKERS */
+    bool freed[BUCKETS];      /* whether the last of these was a retiring */
+    unsigned won, lost, lost_to_retiring, full, given_back, retired, freed_slots;
 } account;
 
 /* numbers that look random and are the same each time (Steele, Lea and Flood's SplitMix) */
@@ -139,13 +141,38 @@ static void account_for(account *a, desk_report r, size_t worker, uint8_t place)
     CHECK((r.before != r.after) == change);
     if (r.action == DESK_WON || r.action == DESK_LOST) CHECK((r.action == DESK_WON) == (r.before == a->moment[worker]));
     if (r.action == DESK_LOST) CHECK(a->changer[r.bucket] < WORKERS && a->changer[r.bucket] != worker);
+    a->lost_to_retiring += r.action == DESK_LOST && a->freed[r.bucket];
     a->word[r.bucket] = r.after;
-    if (r.before != r.after) a->changer[r.bucket] = worker;
+    if (r.before != r.after) a->changer[r.bucket] = worker, a->freed[r.bucket] = false;
     if (change || place == 1) a->moment[worker] = r.after;
     a->won += r.action == DESK_WON;
     a->lost += r.action == DESK_LOST;
     a->full += r.full;
     a->given_back += place == 10;
+}
+
+/* often one that holds a slot, if there is one */
+static size_t any_dead(void) {
+    size_t dead = below(WORKERS);
+    if (below(4) > 0)
+        for (size_t i = 0; i < WORKERS; i++)
+            if (one.records[i].held != DESK_NO_SLOT) dead = i;
+    return dead;
+}
+
+/* whoever holds a slot changes the mark word by being retired, and whoever holds none changes nothing */
+static void retire_any(account *a) {
+    size_t worker = any_dead();
+    if (one.records[worker].kind == DESK_IDLE) return;
+    bool held = one.records[worker].held != DESK_NO_SLOT;
+    size_t bucket = desk_bucket(one.records[worker].key, BUCKETS);
+    CHECK(retire(&one, worker) == DESK_DONE);
+    uint64_t word = one.board[DESK_BUCKET_WORDS * bucket];
+    CHECK((word != a->word[bucket]) == held);
+    a->word[bucket] = word;
+    if (held) a->changer[bucket] = worker, a->freed[bucket] = true;
+    a->retired++;
+    a->freed_slots += held;
 }
 
 /* mostly the worker goes on, since a slot is given back only where its holder slept while another got on */
@@ -155,6 +182,7 @@ static void test_any_order(void) {
     opened(&one, WORKERS, BUCKETS, FIRST_VERSION);
     for (unsigned i = 0; i < TURNS; i++) {
         if (below(8) == 0) worker = below(WORKERS);
+        if (below(60) == 0) retire_any(&a);
         if (one.records[worker].kind == DESK_IDLE) CHECK(start_any(&one, worker) == DESK_DONE);
         uint8_t place = one.records[worker].place;
         desk_turn_outcome t = turn(&one, worker);
@@ -162,6 +190,7 @@ static void test_any_order(void) {
         if (t.report.bucket < BUCKETS) account_for(&a, t.report, worker, place);
     }
     CHECK(a.won > 0 && a.lost > 0 && a.full > 0 && a.given_back > 0);
+    CHECK(a.freed_slots > 0 && a.retired > a.freed_slots && a.lost_to_retiring > 0);
 }
 
 void test_reports(void) {

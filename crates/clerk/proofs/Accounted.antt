@@ -1,5 +1,5 @@
--- Each start that was accepted began a call that has ended, or its worker is at it still: from the start on, the worker is busy with what
--- the start asks until a turn ends that call, and the first turn that does is the call's last. Assumes nothing.
+-- Each start that was accepted began a call that has ended, or its worker is at it still, or was retired from it: from the start on, the worker
+-- is busy with what the start asks until a turn ends that call or the worker is retired. Assumes nothing.
 use Prim.Native.Nat.{ℕ}
 use mathlib.Core.List.{List, [], _∷_, _++_, append-assoc, append-nil}
 use mathlib.Core.Logic.{_⊎_, inl, inr}
@@ -9,21 +9,20 @@ use Rattle.turn.specs.declared.Worker.{Worker}
 use Rattle.turn.specs.declared.Progress.{Progress}
 use Rattle.turn.specs.declared.Progress.the-variants.{GoesOn, Ended}
 use Rattle.turn.specs.Worker.{idle}
-use Rattle.history.specs.Trace.{Entry, By, None}
+use Rattle.history.specs.Trace.{Turn, Retiring, Entry, acted, retired, wasOf, By, OwnEnd, None}
 use Rattle.history.specs.History.{State, Opening, Call, opened, recordOf, after, stateFrom, traceFrom, state, trace}
 use Rattle.history.proofs.View.{new-record}
 use Rattle.history.proofs.States.{view}
 use Rattle.history.proofs.Histories.{stateFrom-append, traceFrom-append}
 use Rattle.history.proofs.Cuts.{none-nil}
 use Rattle.history.proofs.Later.{none-last}
-use Rattle.history.proofs.Steps.{Begins, Turns, stepOf, Lasts, calls-last}
+use Rattle.history.proofs.Steps.{Begins, Turns, Retires, stepOf, Lasts, calls-last}
 use Rattle.history.proofs.Account.{goes-busy}
 use Rattle.clerk.specs.Does.{Asked}
 use Rattle.clerk.specs.Calls.{EndedCall, asks}
-use Rattle.clerk.specs.Clerk.{Start, BegunBy, StillAt}
-use Rattle.clerk.proofs.Rests.{OwnEnd}
+use Rattle.clerk.specs.Clerk.{Start, BegunBy, StillAt, RetiredFrom}
 use Rattle.clerk.proofs.Enumerated.{callOf}
-use Rattle.clerk.proofs.Steps.{each-turn, each-start, was-known, goes-asks}
+use Rattle.clerk.proofs.Steps.{each-turn, each-retiring, each-start, was-known, goes-asks}
 use Rattle.clerk.proofs.Starting.{Taken, Tried, taken, refused, start-tried, start-turns}
 use Rattle.clerk.proofs.Started.{begun-by, rests-then}
 
@@ -43,75 +42,111 @@ module _ (i : ℕ) (asked : Asked) (before : List Entry) where
     turns : past ≡ before ++ since
     unended : None (OwnEnd i) since
 
-  -- the first turn since then that ended a call of that worker ended this one
+  -- what ends a call: a turn that answers it, or a retiring
+  abbrev Fate : Entry → Type 0
+  Fate (acted e) = (answer : ℕ) × (e .report .progress ≡ Ended answer)
+  Fate (retired r) = Unit {0}
+
+  -- the first entry since then that ended a call of that worker ended this one
   record Over (past : List Entry) : Type 0 where
     between : List Entry
-    turn : Entry
+    entry : Entry
     later : List Entry
-    turns : past ≡ (before ++ between) ++ (turn ∷ later)
+    turns : past ≡ (before ++ between) ++ (entry ∷ later)
     unended : None (OwnEnd i) between
-    own : By i turn
-    asks-it : asks (turn .was) ≡ asked
-    answer : ℕ
-    ended : turn .report .progress ≡ Ended answer
+    own : By i entry
+    asks-it : asks (wasOf entry) ≡ asked
+    fate : Fate entry
 
-  -- its call is under way or over
+  -- its call is under way, or over
   abbrev Followed : State → List Entry → Type 0
   Followed s past = Going s past ⊎ Over past
 
+  -- whatever comes after it, a call that is over stays over
+  over-on : (past : List Entry) (e : Entry) → Over past → Over (past ++ (e ∷ []))
+  over-on past e old =
+      record {
+        between = old .between;
+        entry = old .entry;
+        later = old .later ++ (e ∷ []);
+        turns = ap (λ (l : List Entry). l ++ (e ∷ [])) (old .turns) ∙ append-assoc (before ++ old .between) (old .entry ∷ old .later) (e ∷ []);
+        unended = old .unended;
+        own = old .own;
+        asks-it = old .asks-it;
+        fate = old .fate;
+      }
+
+  -- what ends the call of the worker makes it one that is over
+  over-now : {s : State} (past : List Entry) (e : Entry) → By i e → asks (wasOf e) ≡ asked → Fate e → Going s past → Over (past ++ (e ∷ []))
+  over-now past e own asks-it fate old =
+      record {
+        between = old .since;
+        entry = e;
+        later = [];
+        turns = ap (λ (l : List Entry). l ++ (e ∷ [])) (old .turns);
+        unended = old .unended;
+        own = own;
+        asks-it = asks-it;
+        fate = fate;
+      }
+
+  -- what ends no call of the worker leaves it at the call
+  going-on :
+      {s t : State} (past : List Entry) (e : Entry)
+      → (OwnEnd i e → ⊥)
+      → Works (recordOf t i)
+      → Going s past
+      → Going t (past ++ (e ∷ []))
+  going-on past e goes works old =
+      record {
+        works = works;
+        since = old .since ++ (e ∷ []);
+        turns = ap (λ (l : List Entry). l ++ (e ∷ [])) (old .turns) ∙ append-assoc before (old .since) (e ∷ []);
+        unended = none-last (OwnEnd i) (old .since) e (old .unended) goes;
+      }
+
   -- ---- a turn
 
-  module _ {s t : State} {e : Entry} (past : List Entry) (act : Turns s e t) where
+  module _ {s t : State} {e : Turn} (past : List Entry) (act : Turns s e t) where
     abbrev now : List Entry
-    now = past ++ (e ∷ [])
+    now = past ++ (acted e ∷ [])
 
-    -- a turn that ends no call of the worker leaves it at the call
-    going-on : (OwnEnd i e → ⊥) → (By i e → Works (stepOf s e .stepped .worker)) → Going s past → Going t now
-    going-on goes mine old =
-        record {
-          works = each-turn act (λ j u. j ≡ i → Works u) mine (λ j other is. rw is (old .works)) i refl;
-          since = old .since ++ (e ∷ []);
-          turns = ap (λ (l : List Entry). l ++ (e ∷ [])) (old .turns) ∙ append-assoc before (old .since) (e ∷ []);
-          unended = none-last (OwnEnd i) (old .since) e (old .unended) goes;
-        }
+    -- the worker's record after the turn
+    works-then : (By i (acted e) → Works (stepOf s e .stepped .worker)) → Works (recordOf s i) → Works (recordOf t i)
+    works-then mine old = each-turn act (λ j u. j ≡ i → Works u) mine (λ j other is. rw is old) i refl
 
     -- the worker's record before its own turn
-    works-was : By i e → Works (recordOf s i) → Works (e .was)
+    works-was : By i (acted e) → Works (recordOf s i) → Works (e .was)
     works-was own works = was-known act Works (rw own works)
 
     -- any turn leaves the worker at the call, or is the one that ends it
-    going-then : Dec (By i e) → (p : Progress) → e .report .progress ≡ p → Going s past → Followed t now
-    going-then (no other) p is old = inl (going-on (λ end. other (end .0)) (λ own. absurd (other own)) old)
+    going-then : Dec (By i (acted e)) → (p : Progress) → e .report .progress ≡ p → Going s past → Followed t now
+    going-then (no other) p is old =
+        inl (going-on past (acted e) (λ end. other (end .0)) (works-then (λ own. absurd (other own)) (old .works)) old)
     going-then (yes own) GoesOn goes old =
-        inl (going-on (λ end. end .1 goes)
-        (λ by. record { busy = goes-busy act goes; asks-it = goes-asks act goes ∙ works-was own (old .works) .asks-it }) old)
-    going-then (yes own) (Ended answer) over old =
-        inr (record {
-          between = old .since;
-          turn = e;
-          later = [];
-          turns = ap (λ (l : List Entry). l ++ (e ∷ [])) (old .turns);
-          unended = old .unended;
-          own = own;
-          asks-it = works-was own (old .works) .asks-it;
-          answer = answer;
-          ended = over;
-        })
+        inl (going-on past (acted e) (λ end. end .1 goes)
+        (works-then (λ by. record { busy = goes-busy act goes; asks-it = goes-asks act goes ∙ works-was own (old .works) .asks-it }) (old .works)) old)
+    going-then (yes own) (Ended answer) ended old =
+        inr (over-now past (acted e) own (works-was own (old .works) .asks-it) (answer, ended) old)
 
     turn-followed : Followed s past → Followed t now
     turn-followed (inl old) = going-then (ℕ-discrete (e .worker) i) (e .report .progress) refl old
-    turn-followed (inr old) =
-        inr (record {
-          between = old .between;
-          turn = old .turn;
-          later = old .later ++ (e ∷ []);
-          turns = ap (λ (l : List Entry). l ++ (e ∷ [])) (old .turns) ∙ append-assoc (before ++ old .between) (old .turn ∷ old .later) (e ∷ []);
-          unended = old .unended;
-          own = old .own;
-          asks-it = old .asks-it;
-          answer = old .answer;
-          ended = old .ended;
-        })
+    turn-followed (inr old) = inr (over-on past (acted e) old)
+
+  -- ---- a retiring
+
+  module _ {s t : State} {r : Retiring} (past : List Entry) (act : Retires s r t) where
+    retire-then : Dec (By i (retired r)) → Going s past → Followed t (past ++ (retired r ∷ []))
+    retire-then (no other) old =
+        inl (going-on past (retired r) (λ end. other (end .0))
+        (each-retiring act (λ j u. j ≡ i → Works u) (λ own. absurd (other own)) (λ j another is. rw is (old .works)) i refl) old)
+    retire-then (yes own) old =
+        let was : Works (r .was) = rw (act .acts .was) (rw own (old .works)) in
+        inr (over-now past (retired r) own (was .asks-it) tt old)
+
+    retire-followed : Followed s past → Followed t (past ++ (retired r ∷ []))
+    retire-followed (inl old) = retire-then (ℕ-discrete (r .worker) i) old
+    retire-followed (inr old) = inr (over-on past (retired r) old)
 
   -- ---- a start
 
@@ -129,7 +164,12 @@ module _ (i : ℕ) (asked : Asked) (before : List Entry) where
       })
 
   followed-lasts : Lasts (λ s past ts. Followed s past)
-  followed-lasts = record { begins = λ past ts start old. start-followed past start old; turns = λ past ts act old. turn-followed past act old }
+  followed-lasts =
+      record {
+        begins = λ past ts start old. start-followed past start old;
+        turns = λ past ts act old. turn-followed past act old;
+        retires = λ past ts act old. retire-followed past act old;
+      }
 
 -- ---- from the start to the end of the calls
 
@@ -179,25 +219,42 @@ module _ (o : Opening) (calls : List Call) (start : Start o calls) where
       (subst (Followed i (start .asked) before _) (sym trace-last)
       (calls-last (λ s past ts. Followed i (start .asked) before s past) (followed-lasts i (start .asked) before) (start .later) t before [] followed-first))
 
-  -- §17.3: each start that was accepted began a call that has ended, or its worker is at it still
-  pub starts-accounted : ((c : EndedCall) × BegunBy o calls start c) ⊎ StillAt o calls start
+  -- §17.3, §19.6: each start that was accepted began a call that has ended, or its worker is at it still, or was retired from it
+  pub starts-accounted : ((c : EndedCall) × BegunBy o calls start c) ⊎ (StillAt o calls start ⊎ RetiredFrom o calls start)
   starts-accounted = by followed-last
     where
+      ended :
+          (e : Entry) (end : Over i (start .asked) before (trace o calls))
+          → end .entry ≡ e
+          → ((c : EndedCall) × BegunBy o calls start c) ⊎ (StillAt o calls start ⊎ RetiredFrom o calls start)
+      ended (acted e) end is =
+          let fate : Fate i (start .asked) before (acted e) = rw is at (end .fate) in
+          inl (
+            callOf (before ++ end .between) e (fate .0),
+            begun-by o calls start (end .between) e (end .later) (fate .0) (rw is at (end .turns))
+                (rests-then o (start .earlier) i (ap (λ (w : Worker). w .kind) (accepted .was))) (end .unended) (rw is at (end .own))
+                (rw is at (end .asks-it)) (fate .1),
+          )
+      ended (retired r) end is =
+          inr (inr (record {
+            since = end .between;
+            retiring = r;
+            rest = end .later;
+            turns = (rw is at (end .turns)) ∙ append-assoc before (end .between) (retired r ∷ end .later);
+            worker = rw is at (end .own);
+            asks-it = rw is at (end .asks-it);
+            unended = end .unended;
+          }))
+
       by :
           Followed i (start .asked) before (state o calls) (trace o calls)
-          → ((c : EndedCall) × BegunBy o calls start c) ⊎ StillAt o calls start
-      by (inl going) =
-          inr (record {
-            busy = going .works .busy;
-            asks-it = going .works .asks-it;
-            since = going .since;
-            turns = going .turns;
-            unended = going .unended;
-          })
-      by (inr over) =
-          let past = before ++ over .between in
-          inl (
-            callOf past (over .turn) (over .answer),
-            begun-by o calls start (over .between) (over .turn) (over .later) (over .answer) (over .turns)
-                (rests-then o (start .earlier) i (ap (λ (w : Worker). w .kind) (accepted .was))) (over .unended) (over .own) (over .asks-it) (over .ended),
-          )
+          → ((c : EndedCall) × BegunBy o calls start c) ⊎ (StillAt o calls start ⊎ RetiredFrom o calls start)
+      by (inl on) =
+          inr (inl (record {
+            busy = on .works .busy;
+            asks-it = on .works .asks-it;
+            since = on .since;
+            turns = on .turns;
+            unended = on .unended;
+          }))
+      by (inr end) = ended (end .entry) end refl

@@ -12,7 +12,7 @@ use Rattle.turn.specs.declared.Stepped.{Stepped}
 use Rattle.turn.specs.Bucket.{valueCell}
 use Rattle.turn.proofs.Outcomes.{Empty, Did, reads, loses, stores-value, stores-key, claims, commits, frees, closes}
 use Rattle.turn.proofs.Outcomes as out
-use Rattle.history.specs.Trace.{Entry}
+use Rattle.history.specs.Trace.{Turn, Entry, acted}
 use Rattle.history.specs.History.{State}
 use Rattle.history.specs.Cells.{cellsAt, home}
 use Rattle.history.proofs.Steps.{Turns, stepOf}
@@ -44,8 +44,8 @@ goes-not : {A : Type 0} {answer : ℕ} → GoesOn ≡ Ended answer → A
 goes-not is = absurd (let z : _≡_ {A = ℕ} 0 1 = cc in omega arith)
 
 module _
-    (n : ℕ) {s t : State} {e : Entry} (past : List Entry) (sized : Sized n s) (act : Turns s e t) (known : Known s) (then : Known t)
-    (knowing : Knowing n s) (distinct : Distinct s) (begun : Begun past s) (seen : Seen n s) (lists : Lists n (past ++ (e ∷ [])) t)
+    (n : ℕ) {s t : State} {e : Turn} (past : List Entry) (sized : Sized n s) (act : Turns s e t) (known : Known s) (then : Known t)
+    (knowing : Knowing n s) (distinct : Distinct s) (begun : Begun past s) (seen : Seen n s) (lists : Lists n (past ++ (acted e ∷ [])) t)
     (founded : Founded n past s) (missing : Missing n past s) (unsettled : Settles e → ⊥) where
   abbrev w : Worker
   w = e .was
@@ -54,7 +54,7 @@ module _
   c = cellsAt s (home n w)
 
   abbrev now : List Entry
-  now = past ++ (e ∷ [])
+  now = past ++ (acted e ∷ [])
 
   abbrev first : ℕ
   first = firstTurn (e .worker) past
@@ -94,9 +94,9 @@ module _
   missed none = by (own-before n past sized act known then knowing distinct begun lists missing) (turn-deals act known)
     where
       by : Before n past s first w → Deals s e t → MissedSince first now (w .key)
-      by (before.missing some) deals = sometime-on past e some
+      by (before.missing some) deals = sometime-on past (acted e) some
       by (before.ahead a) deals = absurd (none a)
-      by (before.nowhere absent) (nothing quiet slots versions) =
+      by (before.nowhere absent) (nothing quiet slots) =
           absent-now n past sized act known then knowing distinct begun lists missing first (w .key) (first-turn-within (e .worker) past)
           (λ p has. absent p (has-back (slots (home n w)) (w .key) p has))
       by (before.nowhere absent) (comes commit did) = absurd (unsettled (inl commit))
@@ -127,9 +127,9 @@ module _
   by-read a (leads.to2 passed more) is = goes-not is
   by-read a (leads.empty vain rest) is = by-empty a vain rest is
   by-read a (leads.found place agree (out.answers kind)) is =
-      rw (← one-answer (w .seen) a is) (had-look kind (w .seen) (sometime-on past e (had 5 place (agree .0))))
+      rw (← one-answer (w .seen) a is) (had-look kind (w .seen) (sometime-on past (acted e) (had 5 place (agree .0))))
   by-read a (leads.found place agree (out.refuses kind held)) is =
-      rw (← one-answer 0 a is) (had-insert kind (w .seen) (sometime-on past e (had 5 place (agree .0))))
+      rw (← one-answer 0 a is) (had-insert kind (w .seen) (sometime-on past (acted e) (had 5 place (agree .0))))
   by-read a (leads.found place agree (out.gives-back kind held)) is = goes-not is
   by-read a (leads.to12 place matches) is = goes-not is
   by-read a (leads.to11 place other more) is = goes-not is
@@ -146,7 +146,7 @@ module _
   by-did a same (claims stored met place free) is = goes-not is
   by-did a same (commits stored met place fills) is = absurd (unsettled (inl (place, action-is act same)))
   by-did a same (frees stored place fills) is =
-      let found = had 10 place in rw (← one-answer 0 a is) (had-insert (fills .kind) (found .0) (sometime-on past e (found .1)))
+      let found = had 10 place in rw (← one-answer 0 a is) (had-insert (fills .kind) (found .0) (sometime-on past (acted e) (found .1)))
   by-did a same (closes stored met place removes) is = absurd (unsettled (inr (place, action-is act same)))
 
   -- a turn that ends its call without a commit or a close gives an answer that was the clerk's at some turn of the call

@@ -9,13 +9,13 @@ use Rattle.turn.specs.declared.Worker.{Worker}
 use Rattle.turn.specs.declared.Progress.{Progress}
 use Rattle.turn.specs.declared.Progress.the-variants.{GoesOn, Ended}
 use Rattle.turn.specs.Worker.{idle}
-use Rattle.history.specs.Trace.{Entry, Continues}
+use Rattle.history.specs.Trace.{Turn, Retiring, Entry, acted, retired, Continues}
 use Rattle.history.specs.History.{State, recordOf}
 use Rattle.history.proofs.Numbered.{answered-ends}
-use Rattle.history.proofs.Steps.{StartOf, of-look, of-insert, of-remove, Begins, Turns, stepOf}
+use Rattle.history.proofs.Steps.{StartOf, of-look, of-insert, of-remove, Begins, Turns, Retires, stepOf}
 use Rattle.history.proofs.Account.{ended-idle, goes-busy}
 use Rattle.clerk.proofs.Since.{firstOr, first-or-some, since, since-other, since-goes, since-ends, since-within}
-use Rattle.clerk.proofs.Steps.{each-turn, each-start}
+use Rattle.clerk.proofs.Steps.{each-turn, each-retiring, each-start}
 
 -- the record w of a worker whose call has its first turn at k, or had none where k is 0
 pub record Under (k : ℕ) (w : Worker) : Type 0 where
@@ -46,36 +46,36 @@ first-turn-within i past = first-turn-among i past .1
 
 -- ---- a turn
 
-module _ {s t : State} {e : Entry} (past : List Entry) (act : Turns s e t) where
+module _ {s t : State} {e : Turn} (past : List Entry) (act : Turns s e t) where
   abbrev v : Worker
   v = stepOf s e .stepped .worker
 
   abbrev now : List Entry
-  now = past ++ (e ∷ [])
+  now = past ++ (acted e ∷ [])
 
   -- a worker that is busy after its turn has not ended its call
-  busy-goes : (v ≡ idle → ⊥) → Continues e
+  busy-goes : (v ≡ idle → ⊥) → Continues (acted e)
   busy-goes busy = by (e .report .progress) refl
     where
-      by : (p : Progress) → e .report .progress ≡ p → Continues e
+      by : (p : Progress) → e .report .progress ≡ p → Continues (acted e)
       by GoesOn goes = goes
       by (Ended answer) over = absurd (busy (ended-idle act answer over))
 
   -- the call of a worker that is busy after its turn is under way, since the same turn
   pub busy-since : (v ≡ idle → ⊥) → since (e .worker) now ≡ firstTurn (e .worker) past
-  busy-since busy = since-goes (e .worker) past e refl (busy-goes busy)
+  busy-since busy = since-goes (e .worker) past (acted e) refl (busy-goes busy)
 
   by-progress : (p : Progress) → e .report .progress ≡ p → Under (since (e .worker) now) v
   by-progress GoesOn goes =
       record {
-        fresh = λ none. absurd (omega (arith, since-goes (e .worker) past e refl goes, first-turn-among (e .worker) past .0));
+        fresh = λ none. absurd (omega (arith, since-goes (e .worker) past (acted e) refl goes, first-turn-among (e .worker) past .0));
         rests = λ is. absurd (goes-busy act goes is);
       }
   by-progress (Ended answer) over =
       let is : v ≡ idle = ended-idle act answer over in
       record {
         fresh = λ none. rw is (omega arith, refl);
-        rests = λ same. since-ends (e .worker) past e refl (answered-ends e answer over);
+        rests = λ same. since-ends (e .worker) past (acted e) refl (answered-ends e answer over);
       }
 
   -- the record that a turn leaves has had that turn, or rests
@@ -86,7 +86,15 @@ module _ {s t : State} {e : Entry} (past : List Entry) (act : Turns s e t) where
   pub turn-begun : Begun past s → Begun now t
   turn-begun old =
       each-turn act (λ j u. Under (since j now) u) own-under
-      (λ j other. rw (since-other j past e (λ own. other (sym own))) (old j))
+      (λ j other. rw (since-other j past (acted e) (λ own. other (sym own))) (old j))
+
+-- a retiring leaves its worker at no call, and every other with a turn of its call, or as its start left it
+pub retiring-begun :
+    {s t : State} {r : Retiring} (past : List Entry) → Retires s r t → Begun past s → Begun (past ++ (retired r ∷ [])) t
+retiring-begun {r = r} past act old =
+    each-retiring act (λ j u. Under (since j (past ++ (retired r ∷ []))) u)
+    (record { fresh = λ none. (omega arith, refl); rests = λ is. since-ends (r .worker) past (retired r) refl (λ goes. goes) })
+    (λ j other. rw (since-other j past (retired r) (λ own. other (sym own))) (old j))
 
 -- a record that a start leaves is as its start left it
 pub start-fresh : {v : Worker} → StartOf v → (v .place ≤ 2) × (v .slot ≡ 0)

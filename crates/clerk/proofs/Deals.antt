@@ -5,28 +5,29 @@ use mathlib.Core.Logic.{inl, inr}
 use mathlib.Core.Path.{_≡_, refl, sym, ap, subst, _∙_}
 use native.Mathlib.Decide.{ℕ-discrete}
 use native.Mathlib.Omega.{arith}
-use Rattle.mark.specs.Word.{version, markOf, setMark, nextVersion}
-use Rattle.mark.proofs.Fields.{mark-set, mark-set-other, mark-bump, version-set, version-bump}
+use Rattle.mark.specs.Word.{markOf, setMark}
+use Rattle.mark.proofs.Fields.{mark-set, mark-set-other, mark-bump}
 use Rattle.turn.specs.declared.Worker.{Worker}
 use Rattle.turn.specs.declared.Action.the-variants.{Won, Lost}
 use Rattle.turn.specs.declared.Progress.the-variants.{Ended}
 use Rattle.turn.specs.declared.Stepped.{Stepped}
-use Rattle.turn.specs.Worker.{idle, commitPlace, closePlace}
+use Rattle.turn.specs.Worker.{idle, noSlot, commitPlace, closePlace}
 use Rattle.turn.specs.Bucket.{markCell, keyCell, valueCell}
 use Rattle.turn.specs.Places.{ends, filled, commit, close}
 use Rattle.turn.proofs.Effects.{Aimed}
 use Rattle.turn.proofs.Outcomes.{Same, Stored, Holder, Remover, Reads, read1, read1-remove, read2, read3, read4, read5, read11, read12}
 use Rattle.turn.proofs.Outcomes.{Did, reads, loses, stores-value, stores-key, claims, commits, frees, closes}
 use Rattle.floor.specs.Told.{actionNumber}
-use Rattle.history.specs.Trace.{Entry, Commits, Closes}
+use Rattle.history.specs.Trace.{Turn, Retiring, acted, retired, Commits, Closes}
 use Rattle.history.specs.History.{State}
 use Rattle.history.specs.Values.{valueAt}
-use Rattle.history.specs.Cells.{cellsAt, markAt, keyAt, markWordAt, Holds, Fills}
+use Rattle.history.specs.Cells.{cellsAt, markAt, keyAt, Holds, Fills}
 use Rattle.history.proofs.States.{view}
 use Rattle.history.proofs.Held.{own-sure}
-use Rattle.history.proofs.Steps.{Turns, stepOf}
+use Rattle.turn.proofs.Retiring.{retires-holder}
+use Rattle.history.proofs.Steps.{Turns, Retires, stepOf}
 use Rattle.history.proofs.Account.{other-cells, turn-account, action-is, progress-is, ended-idle}
-use Rattle.history.proofs.Cells.{Known, marked-few}
+use Rattle.history.proofs.Cells.{Known, marked-few, retire-marks, retire-spares, retire-key, retire-value}
 use Rattle.clerk.specs.Calls.{Settles}
 
 -- ---- one slot
@@ -115,12 +116,8 @@ not-valid {c} {d} q x slot few other stored empty p = by (ℕ-discrete q p)
 
 -- ---- a turn
 
--- all versions stay but, where there is one, that of this bucket
-abbrev SameVersions : State → (ℕ → Type 0) → State → Type 0
-SameVersions s P t = (b : ℕ) → P b → version (markWordAt t b) ≡ version (markWordAt s b)
-
 -- a won commit: the slot that the worker held is valid now, with its lot and its ticket
-pub record Commit (s : State) (e : Entry) (t : State) : Type 0 where
+pub record Commit (s : State) (e : Turn) (t : State) : Type 0 where
   pub holder : Holder (e .was)
   pub ends : e .report .progress ≡ Ended 1
   pub was : markAt s (e .report .bucket) (e .was .held) ≡ 2
@@ -128,26 +125,23 @@ pub record Commit (s : State) (e : Entry) (t : State) : Type 0 where
   pub key : keyAt t (e .report .bucket) (e .was .held) ≡ e .was .key
   pub value : valueAt t (e .report .bucket) (e .was .held) ≡ e .was .ticket
   pub others : (b p : ℕ) → (b ≡ e .report .bucket → p ≡ e .was .held → ⊥) → SameSlot (cellsAt s b) (cellsAt t b) p
-  pub next : version (markWordAt t (e .report .bucket)) ≡ nextVersion (version (markWordAt s (e .report .bucket)))
-  pub versions : SameVersions s (λ b. b ≡ e .report .bucket → ⊥) t
 
 -- a won close: the slot that the worker looked at was valid, and is empty now
-pub record Close (s : State) (e : Entry) (t : State) : Type 0 where
+pub record Close (s : State) (e : Turn) (t : State) : Type 0 where
   pub remover : Remover (e .was)
   pub ends : e .report .progress ≡ Ended (e .was .seen)
   pub few : e .was .slot ≤ 2
   pub was : markAt s (e .report .bucket) (e .was .slot) ≡ 1
   pub gone : markAt t (e .report .bucket) (e .was .slot) ≡ 0
   pub others : (b p : ℕ) → (b ≡ e .report .bucket → p ≡ e .was .slot → ⊥) → SameSlot (cellsAt s b) (cellsAt t b) p
-  pub versions : SameVersions s (λ b. Unit {0}) t
 
 -- no turn commits and closes
-pub no-commit-closes : (e : Entry) → Commits e → Closes e → ⊥
+pub no-commit-closes : (e : Turn) → Commits e → Closes e → ⊥
 no-commit-closes e commit close = omega (arith, commit .0, close .0)
 
 -- what a turn does to the lots on the board
-pub data Deals (s : State) (e : Entry) (t : State) : Type 0 where
-  nothing : (Settles e → ⊥) → ((b p : ℕ) → SameSlot (cellsAt s b) (cellsAt t b) p) → SameVersions s (λ b. Unit {0}) t → Deals s e t
+pub data Deals (s : State) (e : Turn) (t : State) : Type 0 where
+  nothing : (Settles e → ⊥) → ((b p : ℕ) → SameSlot (cellsAt s b) (cellsAt t b) p) → Deals s e t
   comes : Commits e → Commit s e t → Deals s e t
   goes : Closes e → Close s e t → Deals s e t
 
@@ -162,7 +156,7 @@ reads-elsewhere (read5 place looks choice) = omega arith
 reads-elsewhere (read11 place removes choice) = omega arith
 reads-elsewhere (read12 place removes) = omega arith
 
-module _ {s t : State} {e : Entry} (act : Turns s e t) (known : Known s) where
+module _ {s t : State} {e : Turn} (act : Turns s e t) (known : Known s) where
   abbrev w : Worker
   w = e .was
 
@@ -183,7 +177,7 @@ module _ {s t : State} {e : Entry} (act : Turns s e t) (known : Known s) where
   held-two holder = sure (holder .kind, holder .held)
     where
       sure : Holds w → markAt s b (w .held) ≡ 2
-      sure = rw (act .acts .was) (λ holds. own-sure _ (view s) e _ (view t) (known .kept) (act .acts) holds .board)
+      sure = rw (act .acts .was) (λ holds. own-sure _ (view s) (acted e) _ (view t) (known .kept) (act .acts) holds .board)
 
   -- what a worker has put into the slot that it holds
   pub held-cells : Holder w → Fills (cellsAt s b) w
@@ -216,18 +210,10 @@ module _ {s t : State} {e : Entry} (act : Turns s e t) (known : Known s) where
       by (yes is) = subst (λ (k : ℕ). SameSlot (cellsAt s k) (cellsAt t k) p) (sym is) (here p (λ same. apart is (sym same)))
       by (no other) = elsewhere bucket p other
 
-  -- versions, in the worker's bucket and in the others
-  versions-then : version (d markCell) ≡ version (c markCell) → SameVersions s (λ bucket. Unit {0}) t
-  versions-then here bucket any = by (ℕ-discrete bucket b)
-    where
-      by : Dec (bucket ≡ b) → version (markWordAt t bucket) ≡ version (markWordAt s bucket)
-      by (yes is) = rw is here
-      by (no other) = ap version (other-cells act bucket markCell other)
-
   -- where the turn neither commits nor closes
   module _ (unsettled : Settles e → ⊥) where
     same-all : Same c d → Deals s e t
-    same-all same = nothing unsettled (everywhere (same-slots same)) (versions-then (ap version (same markCell)))
+    same-all same = nothing unsettled (everywhere (same-slots same))
 
     beside-all :
         (j x : ℕ)
@@ -236,7 +222,7 @@ module _ {s t : State} {e : Entry} (act : Turns s e t) (known : Known s) where
         → ((p : ℕ) → markOf (c markCell) p ≡ 1 → (keyCell p ≡ j → ⊥) × (valueCell p ≡ j → ⊥))
         → Deals s e t
     beside-all j x stored mark apart =
-        nothing unsettled (everywhere (λ p. beside p j x stored mark (apart p))) (versions-then (ap version (stored .others markCell mark)))
+        nothing unsettled (everywhere (λ p. beside p j x stored mark (apart p)))
 
     set-all :
         (q x : ℕ)
@@ -248,7 +234,6 @@ module _ {s t : State} {e : Entry} (act : Turns s e t) (known : Known s) where
         → Deals s e t
     set-all q x slot few other stored empty =
         nothing unsettled (everywhere (not-valid q x slot few other stored empty))
-        (versions-then (ap version (stored .there) ∙ version-set (c markCell) q x))
 
   -- at another place than 9 and 13 nothing is settled
   unsettled-at : (w .place ≡ commitPlace → ⊥) × (w .place ≡ closePlace → ⊥) → Settles e → ⊥
@@ -285,8 +270,6 @@ module _ {s t : State} {e : Entry} (act : Turns s e t) (known : Known s) where
             let same : markOf (commit w) p ≡ markOf (c markCell) p =
             mark-bump _ p ∙ mark-set-other (filled w) (w .held) 1 p (omega arith) other ∙ ap (λ (m : ℕ). markOf m p) (sym met) in
             marked p _ stored (λ valid. same ∙ valid) (λ valid. sym same ∙ valid));
-        next = ap version (stored .there) ∙ version-bump _ ∙ ap nextVersion (version-set (filled w) (w .held) 1 ∙ ap version (sym met));
-        versions = λ bucket other. ap version (other-cells act bucket markCell other);
       }
 
   close-of :
@@ -306,7 +289,6 @@ module _ {s t : State} {e : Entry} (act : Turns s e t) (known : Known s) where
         was = ap (λ (m : ℕ). markOf m (w .slot)) met ∙ aimed .at-close (omega arith) (omega arith);
         gone = rw (set .there) (mark-set (c markCell) (w .slot) 0 (omega arith) (omega arith));
         others = but-one (w .slot) (λ p other. other-slot p (w .slot) 0 (omega arith) set other);
-        versions = versions-then (ap version (set .there) ∙ version-set (c markCell) (w .slot) 0);
       }
 
   by-did : {x : Stepped} → stepOf s e .stepped ≡ x → Did c w d x → Deals s e t
@@ -339,6 +321,28 @@ module _ {s t : State} {e : Entry} (act : Turns s e t) (known : Known s) where
   busy-slots busy = by turn-deals
     where
       by : Deals s e t → (bucket p : ℕ) → SameSlot (cellsAt s bucket) (cellsAt t bucket) p
-      by (nothing unsettled slots versions) = slots
+      by (nothing unsettled slots) = slots
       by (comes commit did) = absurd (busy (ended-idle act 1 (did .ends)))
       by (goes close did) = absurd (busy (ended-idle act (w .seen) (did .ends)))
+
+-- ---- a retiring
+
+-- a retiring leaves all lots on the board: the slot that it gives back is not valid
+pub retiring-slots : {s t : State} {r : Retiring} → Retires s r t → Known s → (b p : ℕ) → SameSlot (cellsAt s b) (cellsAt t b) p
+retiring-slots {s} {t} {r} act known b p =
+    record {
+      on = still;
+      back = λ valid. retire-marks act b p 1 (omega arith) valid;
+      key = λ valid. retire-key act b p;
+      value = λ valid. retire-value act b p;
+    }
+  where
+    -- a slot that was held has mark 2
+    held-two : (r .was .held ≡ noSlot → ⊥) → markAt s (r .bucket) (r .was .held) ≡ 2
+    held-two some =
+        let sure : Holds (r .was) → markAt s (r .bucket) (r .was .held) ≡ 2 =
+        rw (act .acts .was) (λ holds. own-sure _ (view s) (retired r) _ (view t) (known .kept) (act .acts) holds .board) in
+        sure (retires-holder _ (r .was) (act .ok) some)
+
+    still : markAt s b p ≡ 1 → markAt t b p ≡ 1
+    still valid = retire-spares act b p (λ some here slot. omega (arith, sym valid ∙ ap (λ (b : ℕ). markAt s b p) here ∙ ap (markAt s (r .bucket)) slot ∙ held-two some)) ∙ valid

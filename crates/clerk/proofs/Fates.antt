@@ -4,13 +4,13 @@ use mathlib.Core.Logic.{_⊎_, inl, inr}
 use mathlib.Core.Path.{_≡_}
 use native.Mathlib.Decide.{ℕ-discrete}
 use native.Mathlib.Omega.{arith}
-use Rattle.history.specs.Trace.{Entry, Commits, Closes}
+use Rattle.history.specs.Trace.{Turn, Closes, Commits}
 use Rattle.history.specs.History.{State}
 use Rattle.history.specs.Values.{valueAt}
 use Rattle.history.specs.Cells.{cellsAt, markAt, keyAt}
 use Rattle.clerk.proofs.Deals.{SameSlot, Commit, Close, Deals, nothing, comes, goes}
 
-module _ (s : State) (e : Entry) (t : State) (b p : ℕ) where
+module _ (s : State) (e : Turn) (t : State) (b p : ℕ) where
   -- where a slot that is valid after a turn comes from: it was valid with the same lot and ticket, or the turn committed it
   pub data From : Type 0 where
     old : markAt s b p ≡ 1 → keyAt t b p ≡ keyAt s b p → valueAt t b p ≡ valueAt s b p → From
@@ -30,7 +30,7 @@ module _ (s : State) (e : Entry) (t : State) (b p : ℕ) where
 
 -- where all slots but one stay, slot p is that one, or stays
 one-or-same :
-    (s t : State) (e : Entry) (b p q : ℕ)
+    (s t : State) (e : Turn) (b p q : ℕ)
     → ((c r : ℕ) → (c ≡ e .report .bucket → r ≡ q → ⊥) → SameSlot (cellsAt s c) (cellsAt t c) r)
     → ((b ≡ e .report .bucket) × (p ≡ q)) ⊎ SameSlot (cellsAt s b) (cellsAt t b) p
 one-or-same s t e b p q others = by (ℕ-discrete b (e .report .bucket)) (ℕ-discrete p q)
@@ -40,7 +40,7 @@ one-or-same s t e b p q others = by (ℕ-discrete b (e .report .bucket)) (ℕ-di
     by (yes here) (no other) = inr (others b p (λ here same. other same))
     by (no elsewhere) slot = inr (others b p (λ here same. elsewhere here))
 
-module _ {s : State} {e : Entry} {t : State} (b p : ℕ) where
+module _ {s : State} {e : Turn} {t : State} (b p : ℕ) where
   same-from : SameSlot (cellsAt s b) (cellsAt t b) p → markAt t b p ≡ 1 → From s e t b p
   same-from same valid = let was = same .back valid in old was (same .key was) (same .value was)
 
@@ -49,7 +49,7 @@ module _ {s : State} {e : Entry} {t : State} (b p : ℕ) where
 
   -- a slot that is valid after a turn comes from somewhere
   pub valid-from : Deals s e t → markAt t b p ≡ 1 → From s e t b p
-  valid-from (nothing unsettled slots versions) valid = same-from (slots b p) valid
+  valid-from (nothing unsettled slots) valid = same-from (slots b p) valid
   valid-from (comes commit did) valid = by (one-or-same s t e b p (e .was .held) (did .others))
     where
       by : ((b ≡ e .report .bucket) × (p ≡ e .was .held)) ⊎ SameSlot (cellsAt s b) (cellsAt t b) p → From s e t b p
@@ -63,7 +63,7 @@ module _ {s : State} {e : Entry} {t : State} (b p : ℕ) where
 
   -- a slot that is valid before a turn has its fate
   pub valid-then : Deals s e t → markAt s b p ≡ 1 → Fate s e t b p
-  valid-then (nothing unsettled slots versions) valid = same-fate (slots b p) valid
+  valid-then (nothing unsettled slots) valid = same-fate (slots b p) valid
   valid-then (comes commit did) valid = by (one-or-same s t e b p (e .was .held) (did .others))
     where
       by : ((b ≡ e .report .bucket) × (p ≡ e .was .held)) ⊎ SameSlot (cellsAt s b) (cellsAt t b) p → Fate s e t b p

@@ -9,16 +9,17 @@ use native.Mathlib.Omega.{arith}
 use lib.ListN.{length}
 use Rattle.turn.specs.declared.Worker.{Worker}
 use Rattle.turn.specs.declared.Stepped.{Stepped}
+use Rattle.turn.specs.Worker.{idle}
 use Rattle.turn.specs.Bucket.{markCell, keyCell, valueCell}
 use Rattle.turn.proofs.Outcomes.{Same, Empty, Did, reads, loses, stores-value, stores-key, claims, commits, frees, closes}
 use Rattle.turn.proofs.Outcomes as out
-use Rattle.history.specs.Trace.{Entry}
+use Rattle.history.specs.Trace.{Turn, Retiring, Entry, acted, retired}
 use Rattle.history.specs.History.{State, recordOf}
 use Rattle.history.specs.Values.{valueAt}
 use Rattle.history.specs.Cells.{cellsAt, keyAt, home, Holds}
-use Rattle.history.proofs.Steps.{Begins, Turns, stepOf}
+use Rattle.history.proofs.Steps.{Begins, Turns, Retires, stepOf}
 use Rattle.history.proofs.Written.{stores-at, store-writes}
-use Rattle.history.proofs.Cells.{Known, value-same, key-same}
+use Rattle.history.proofs.Cells.{Known, value-same, key-same, retire-value, retire-key}
 use Rattle.clerk.specs.Does.{line}
 use Rattle.walks.specs.Lists.{In}
 use Rattle.clerk.proofs.Rows.{Rows, silent, rowAt, _▹_, among-first, Follow, follow}
@@ -30,7 +31,7 @@ use Rattle.clerk.proofs.Sometime.{Sometime, sometime-on, sometime-now}
 use Rattle.clerk.proofs.Begun.{Begun, firstTurn, first-turn-within, busy-since, start-fresh}
 use Rattle.clerk.proofs.Listing.{Lists}
 use Rattle.clerk.proofs.Seen.{Sees, Seen}
-use Rattle.clerk.proofs.Steps.{Sized, each-turn, each-start, own-did, was-known, start-cells}
+use Rattle.clerk.proofs.Steps.{Sized, each-turn, each-retiring, each-start, own-did, was-known, start-cells}
 
 -- where Had says of a ticket that the lot had it at some turn of the call
 module _ (Had : ℕ → Type 0) (c : ℕ → ℕ) (w : Worker) where
@@ -101,9 +102,9 @@ reasons-on Had Then c d w kept stood =
 -- ---- the worker's own turn
 
 -- of w, in a bucket with the cells c, whose call has its first turn at `first`
-module _ (n : ℕ) (t : State) (e : Entry) (past : List Entry) (w : Worker) (first : ℕ) (c : ℕ → ℕ) where
+module _ (n : ℕ) (t : State) (e : Turn) (past : List Entry) (w : Worker) (first : ℕ) (c : ℕ → ℕ) where
   abbrev now : List Entry
-  now = past ++ (e ∷ [])
+  now = past ++ (acted e ∷ [])
 
   module _
       (old : Reasons (HadSince first past (w .key)) c w) (lists : Lists n now t) (early : first ≤ length past + 1) where
@@ -124,14 +125,14 @@ module _ (n : ℕ) (t : State) (e : Entry) (past : List Entry) (w : Worker) (fir
     by-read same (leads.begins-remove place removes) = tt
     by-read same (leads.to3 place) = tt
     by-read same (leads.to4 place valid) = λ value key.
-        sometime-now past e early
+        sometime-now past (acted e) early
         (lists .all (line (w .key) (w .seen)) (record { slot = w .slot; has = (rw (same markCell) valid, key); value = value }))
-    by-read same (leads.to5 place equal) = λ value. sometime-on past e (had 4 place (sym (same (valueCell (w .slot))) ∙ value) equal)
+    by-read same (leads.to5 place equal) = λ value. sometime-on past (acted e) (had 4 place (sym (same (valueCell (w .slot))) ∙ value) equal)
     by-read same (leads.to2 passed more) = tt
     by-read same (leads.empty vain rest) = by-empty rest
     by-read same (leads.found place agree (out.answers kind)) = tt
     by-read same (leads.found place agree (out.refuses kind held)) = tt
-    by-read same (leads.found place agree (out.gives-back kind held)) = (w .seen, sometime-on past e (had 5 place (agree .0)))
+    by-read same (leads.found place agree (out.gives-back kind held)) = (w .seen, sometime-on past (acted e) (had 5 place (agree .0)))
     by-read same (leads.to12 place matches) = tt
     by-read same (leads.to11 place other more) = tt
     by-read same (leads.not-there place removes other done) = tt
@@ -150,8 +151,8 @@ module _ (n : ℕ) (t : State) (e : Entry) (past : List Entry) (w : Worker) (fir
 -- ---- a turn keeps it, and so does a start
 
 module _
-    (n : ℕ) {s t : State} {e : Entry} (past : List Entry) (sized : Sized n s) (act : Turns s e t) (known : Known s) (seen : Seen n s)
-    (begun : Begun past s) (lists : Lists n (past ++ (e ∷ [])) t) (old : Founded n past s) where
+    (n : ℕ) {s t : State} {e : Turn} (past : List Entry) (sized : Sized n s) (act : Turns s e t) (known : Known s) (seen : Seen n s)
+    (begun : Begun past s) (lists : Lists n (past ++ (acted e ∷ [])) t) (old : Founded n past s) where
   abbrev i : ℕ
   i = e .worker
 
@@ -159,7 +160,7 @@ module _
   v = stepOf s e .stepped .worker
 
   abbrev after : List Entry
-  after = past ++ (e ∷ [])
+  after = past ++ (acted e ∷ [])
 
   -- what a worker had before its turn, counted from the first turn of its call
   pub own-reasons : ReasonsFrom n past s (firstTurn i past) (e .was)
@@ -220,13 +221,35 @@ module _
 
     others : ReasonsFrom n after t (since j after) u
     others =
-        subst (λ (first : ℕ). ReasonsFrom n after t first u) (sym (since-other j past e (λ own. other (sym own))))
+        subst (λ (first : ℕ). ReasonsFrom n after t first u) (sym (since-other j past (acted e) (λ own. other (sym own))))
         (reasons-on (HadSince (since j past) past (u .key)) (HadSince (since j past) after (u .key)) (cellsAt s b) (cellsAt t b) u
-        (λ ticket. sometime-on past e) (λ from to value. (old-value from to value, old-key from to value)) (old j))
+        (λ ticket. sometime-on past (acted e)) (λ from to value. (old-value from to value, old-key from to value)) (old j))
 
   -- a turn keeps the reasons of every worker
   pub turn-founded : Founded n after t
   turn-founded = each-turn act (λ j u. ReasonsFrom n after t (since j after) u) mine others
+
+-- a retiring keeps the reasons of every worker
+pub retiring-founded :
+    (n : ℕ) {s t : State} {r : Retiring} (past : List Entry)
+    → Retires s r t
+    → Founded n past s
+    → Founded n (past ++ (retired r ∷ [])) t
+retiring-founded n {s} {t} {r} past act old =
+    each-retiring act (λ j u. ReasonsFrom n then t (since j then) u)
+    (no-reasons (HadSince (since (r .worker) then) then 0) (cellsAt t (home n idle)) idle (omega arith)) others
+  where
+    then : List Entry
+    then = past ++ (retired r ∷ [])
+
+    others : (j : ℕ) → (j ≡ r .worker → ⊥) → ReasonsFrom n then t (since j then) (recordOf s j)
+    others j other =
+        let u = recordOf s j in
+        let b = home n u in
+        subst (λ (first : ℕ). ReasonsFrom n then t first u) (sym (since-other j past (retired r) (λ own. other (sym own))))
+        (reasons-on (HadSince (since j past) past (u .key)) (HadSince (since j past) then (u .key)) (cellsAt s b) (cellsAt t b) u
+        (λ ticket. sometime-on past (retired r))
+        (λ from to value. (sym (retire-value act b (u .slot)) ∙ value, retire-key act b (u .slot))) (old j))
 
 -- a start keeps the reasons of every worker
 pub start-founded :

@@ -12,21 +12,21 @@ use Rattle.turn.specs.Worker.{lookKind, idle}
 use Rattle.turn.specs.Bucket.{markCell, keyCell, valueCell}
 use Rattle.turn.proofs.Outcomes.{Empty, Found, Did, reads, loses, stores-value, stores-key, claims, commits, frees, closes}
 use Rattle.turn.proofs.Outcomes as out
-use Rattle.history.specs.Trace.{Entry}
-use Rattle.history.specs.Counts.{commitsIn}
+use Rattle.history.specs.Trace.{Turn, Retiring, Entry, acted, retired}
 use Rattle.history.specs.History.{State, recordOf}
 use Rattle.history.specs.Cells.{cellsAt, markWordAt, markAt, home}
 use Rattle.history.specs.Values.{valueAt}
 use Rattle.history.proofs.View.{Aware}
-use Rattle.history.proofs.Steps.{StartOf, of-look, of-insert, of-remove, Begins, Turns, stepOf}
+use Rattle.history.proofs.Steps.{StartOf, of-look, of-insert, of-remove, Begins, Turns, Retires, stepOf}
 use Rattle.history.proofs.Account.{still-on}
 use Rattle.history.proofs.Cells.{Known}
 use Rattle.clerk.proofs.Rows.{Rows, silent, rowAt, _▹_, among-first, Follow, follow}
 use Rattle.clerk.proofs.Leads.{Passed, not-valid, other-lot, past-last, changed, Leads, reads-leads}
 use Rattle.clerk.proofs.Leads as leads
-use Rattle.clerk.proofs.Deals.{SameSlot, same-slots, turn-deals, busy-slots}
-use Rattle.clerk.proofs.Recalls.{Current, current-met, Recalled, current-before}
-use Rattle.clerk.proofs.Steps.{Sized, each-turn, each-start, own-did, still-there, was-known, start-cells}
+use Rattle.clerk.proofs.Counts.{bumpsIn}
+use Rattle.clerk.proofs.Deals.{SameSlot, same-slots, turn-deals, busy-slots, retiring-slots}
+use Rattle.clerk.proofs.Recalls.{Current, current-met, Recalled, current-before, current-until}
+use Rattle.clerk.proofs.Steps.{Sized, each-turn, each-retiring, each-start, own-did, still-there, was-known, start-cells}
 
 -- of a bucket with the cells c
 module _ (c : ℕ → ℕ) where
@@ -193,9 +193,23 @@ module _
 pub nothing-known : (c : ℕ → ℕ) (w : Worker) → w .place ≤ 1 → Knows c w
 nothing-known c w early = among-first 2 (w .place) (knowledge c w) (omega arith) (tt ▹ tt ▹ tt)
 
+-- whose record stays knows what it knew, if a word that is still the board's was so before, with the same valid slots
+knows-still :
+    (n : ℕ) (s t : State) (w : Worker)
+    → (Aware w
+    → Current (markWordAt t (home n w)) (w .word)
+    → Current (markWordAt s (home n w)) (w .word) × ((p : ℕ) → SameSlot (cellsAt s (home n w)) (cellsAt t (home n w)) p))
+    → KnowsNow n s w
+    → KnowsNow n t w
+knows-still n s t w before knew other current = by (decLe (w .place) 1)
+  where
+    by : Dec (w .place ≤ 1) → Knows (cellsAt t (home n w)) w
+    by (yes early) = nothing-known (cellsAt t (home n w)) w early
+    by (no late) = let was = before (record { other = other; from = omega arith }) current in knows-on (was .1) w (knew other (was .0))
+
 module _
-    (n : ℕ) {s t : State} {e : Entry} (past : List Entry) (sized : Sized n s) (act : Turns s e t) (known : Known s)
-    (few : commitsIn (past ++ (e ∷ [])) < 2 ^ 32) (recalled : Recalled n past s) (old : Knowing n s) where
+    (n : ℕ) {s t : State} {e : Turn} (past : List Entry) (sized : Sized n s) (act : Turns s e t) (known : Known s)
+    (few : bumpsIn (past ++ (acted e ∷ [])) < 2 ^ 32) (recalled : Recalled n past s) (old : Knowing n s) where
   abbrev w : Worker
   w = e .was
 
@@ -218,18 +232,31 @@ module _
           (knows-did (cellsAt s (home n w)) w (knew kind) valued (own-did act sized) (rw there at current)))
 
   others : (j : ℕ) → (j ≡ e .worker → ⊥) → KnowsNow n t (recordOf s j)
-  others j another other current = by (decLe (recordOf s j .place) 1)
-    where
-      by : Dec (recordOf s j .place ≤ 1) → Knows (cellsAt t (home n (recordOf s j))) (recordOf s j)
-      by (yes early) = nothing-known (cellsAt t (home n (recordOf s j))) (recordOf s j) early
-      by (no late) =
-          let aware : Aware (recordOf s j) = record { other = other; from = omega arith } in
-          let was = current-before past (turn-deals act known) (recordOf s j .word) (home n (recordOf s j)) (recalled j aware) few current in
-          knows-on (was .1) (recordOf s j) (old j other (was .0))
+  others j another =
+      knows-still n s t (recordOf s j) (λ aware current.
+      current-before past act (turn-deals act known) (recordOf s j .word) (home n (recordOf s j)) (recalled j aware) few current)
+      (old j)
 
   -- a turn leaves every insert and every remove knowing what it should
   pub turn-knowing : Knowing n t
   turn-knowing = each-turn act (λ j u. KnowsNow n t u) mine others
+
+-- a retiring leaves every insert and every remove knowing what it should
+pub retiring-knowing :
+    (n : ℕ) {s t : State} {r : Retiring} (past : List Entry)
+    → Retires s r t
+    → Known s
+    → bumpsIn (past ++ (retired r ∷ [])) < 2 ^ 32
+    → Recalled n past s
+    → Knowing n s
+    → Knowing n t
+retiring-knowing n {s} {t} {r} past act known few recalled old =
+    each-retiring act (λ j u. KnowsNow n t u) (λ other current. nothing-known (cellsAt t (home n idle)) idle (omega arith))
+    (λ j another.
+    knows-still n s t (recordOf s j) (λ aware current. (
+      current-until past act (recordOf s j .word) (home n (recordOf s j)) (recalled j aware) few current,
+      retiring-slots act known (home n (recordOf s j)),
+    )) (old j))
 
 -- a record that a start leaves knows nothing yet
 start-knows : {v : Worker} → StartOf v → (c : ℕ → ℕ) → (v .kind ≡ lookKind → ⊥) → Knows c v

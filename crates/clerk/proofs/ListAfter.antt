@@ -3,7 +3,7 @@ use mathlib.Core.List.{List, [], _∷_, _++_}
 use mathlib.Core.Path.{_≡_, refl, _∙_}
 use Rattle.turn.specs.declared.Worker.{Worker}
 use Rattle.turn.specs.Worker.{lookKind, insertKind, removeKind}
-use Rattle.history.specs.Trace.{Entry}
+use Rattle.history.specs.Trace.{Entry, wasOf, IsTurn}
 use Rattle.clerk.specs.Does.{Line, look, insert, remove, does}
 use Rattle.clerk.specs.Calls.{Settles, isSettled, asks, doneBy, listFrom, listAfter}
 
@@ -35,17 +35,17 @@ module _ (past : List Entry) (e : Entry) where
   list-then = list-append past [] (e ∷ [])
 
   -- a turn that commits or closes is done by the clerk
-  pub list-settled : Settles e → listAfter (past ++ (e ∷ [])) ≡ does (asks (e .was)) (listAfter past) .list
+  pub list-settled : IsTurn Settles e → listAfter (past ++ (e ∷ [])) ≡ does (asks (wasOf e)) (listAfter past) .list
   list-settled settles = list-then ∙ by (isSettled e)
     where
-      by : (d : Dec (Settles e)) → doneBy e d (listAfter past) ≡ does (asks (e .was)) (listAfter past) .list
+      by : (d : Dec (IsTurn Settles e)) → doneBy e d (listAfter past) ≡ does (asks (wasOf e)) (listAfter past) .list
       by (yes is) = refl
       by (no isnot) = absurd (isnot settles)
 
   -- a turn that neither commits nor closes leaves the list
-  pub list-quiet : (Settles e → ⊥) → listAfter (past ++ (e ∷ [])) ≡ listAfter past
+  pub list-quiet : (IsTurn Settles e → ⊥) → listAfter (past ++ (e ∷ [])) ≡ listAfter past
   list-quiet quiet = list-then ∙ by (isSettled e)
     where
-      by : (d : Dec (Settles e)) → doneBy e d (listAfter past) ≡ listAfter past
+      by : (d : Dec (IsTurn Settles e)) → doneBy e d (listAfter past) ≡ listAfter past
       by (yes is) = absurd (quiet is)
       by (no isnot) = refl

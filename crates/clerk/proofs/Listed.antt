@@ -10,7 +10,7 @@ use lib.Dec.{eqb}
 use lib.ListN.{length}
 use borrow.Author.Tests.{eq-eqb, ne-eqb, eqb-false}
 use Rattle.mark.proofs.Choices.{not-both}
-use Rattle.history.specs.Trace.{Entry}
+use Rattle.history.specs.Trace.{Entry, wasOf, IsTurn}
 use Rattle.clerk.specs.Does.{Line, line, Asked, look, insert, remove, Told, told, isIn, ticketIn, without, does, TellsChange}
 use Rattle.clerk.specs.Calls.{Settles, isSettled, asks, doneBy, listFrom, listAfter}
 use Rattle.walks.specs.Lists.{Each, In, Ordered}
@@ -197,8 +197,8 @@ once-from : (trace : List Entry) (list : List Line) → Ordered OtherLot list �
 once-from [] list once = once
 once-from (e ∷ trace) list once = once-from trace (doneBy e (isSettled e) list) (by (isSettled e))
   where
-    by : (d : Dec (Settles e)) → Ordered OtherLot (doneBy e d list)
-    by (yes is) = does-once (asks (e .was)) list once
+    by : (d : Dec (IsTurn Settles e)) → Ordered OtherLot (doneBy e d list)
+    by (yes is) = does-once (asks (wasOf e)) list once
     by (no isnot) = once
 
 -- no lot is twice in the list after a trace

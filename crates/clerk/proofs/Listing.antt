@@ -10,12 +10,12 @@ use lib.ListN.{length}
 use Rattle.turn.specs.declared.Worker.{Worker}
 use Rattle.turn.specs.declared.Progress.the-variants.{Ended}
 use Rattle.engine.specs.Board.{bucketOf}
-use Rattle.history.specs.Trace.{Entry, Commits, Closes}
+use Rattle.history.specs.Trace.{Turn, Retiring, Entry, acted, retired, Commits, Closes, IsTurn}
 use Rattle.history.specs.Counts.{commitsIn, closesIn, isCommit, isClose}
 use Rattle.history.specs.History.{State}
 use Rattle.history.specs.Values.{valueAt}
 use Rattle.history.specs.Cells.{cellsAt, markAt, keyAt}
-use Rattle.history.proofs.Steps.{Begins, Turns}
+use Rattle.history.proofs.Steps.{Begins, Turns, Retires}
 use Rattle.history.proofs.Cells.{Known}
 use Rattle.clerk.specs.Does.{Line, line, Asked, Told, told, does, without, TellsChange}
 use Rattle.clerk.specs.Calls.{asks, Settles, listAfter}
@@ -24,7 +24,7 @@ use Rattle.clerk.proofs.Counts.{count-more, count-same}
 use Rattle.clerk.proofs.ListAfter.{asks-insert, asks-remove, list-settled, list-quiet}
 use Rattle.clerk.proofs.Listed.{NotOf, not-in-lot, insert-none, remove-there, without-has, without-was, without-length, listed-once}
 use Rattle.clerk.proofs.Enumerated.{one-answer}
-use Rattle.clerk.proofs.Deals.{SameSlot, same-slots, same-back, Commit, Close, no-commit-closes, Deals, nothing, comes, goes, turn-deals}
+use Rattle.clerk.proofs.Deals.{SameSlot, same-slots, same-back, Commit, Close, no-commit-closes, Deals, nothing, comes, goes, turn-deals, retiring-slots}
 use Rattle.clerk.proofs.Fates.{From, old, new, Fate, stays, closed, valid-from, valid-then}
 use Rattle.clerk.proofs.Knows.{HasLot, has-on, Knowing}
 use Rattle.clerk.proofs.Distinct.{Distinct}
@@ -64,16 +64,33 @@ pub none-listed :
 none-listed {past = past} lists lot none =
     not-in-lot lot (listAfter past) (λ ticket inside. let l = lists .there (line lot ticket) inside in none (l .slot) (l .has))
 
+-- what neither commits nor closes, and leaves all valid slots, keeps the list what stands there
+quiet-lists :
+    (n : ℕ) {s t : State} (past : List Entry) (e : Entry)
+    → Lists n past s
+    → (IsTurn Settles e → ⊥)
+    → (IsTurn Commits e → ⊥)
+    → (IsTurn Closes e → ⊥)
+    → ((b p : ℕ) → SameSlot (cellsAt s b) (cellsAt t b) p)
+    → Lists n (past ++ (e ∷ [])) t
+quiet-lists n past e lists quiet uncommitted unclosed slots =
+    let same = list-quiet past e quiet in
+    record {
+      there = λ l inside. shows-on l (slots (bucketOf (l .lot) n)) (lists .there l (subst (In l) same inside));
+      all = λ l shows. subst (In l) (sym same) (lists .all l (shows-on l (λ p. same-back (slots (bucketOf (l .lot) n) p)) shows));
+      long = rw same (omega (arith, lists .long, count-same isCommit past e uncommitted, count-same isClose past e unclosed));
+    }
+
 -- ---- a turn
 
 module _
-    (n : ℕ) {s t : State} {e : Entry} (past : List Entry) (sized : Sized n s) (act : Turns s e t) (known : Known s)
+    (n : ℕ) {s t : State} {e : Turn} (past : List Entry) (sized : Sized n s) (act : Turns s e t) (known : Known s)
     (knowing : Knowing n s) (distinct : Distinct s) (lists : Lists n past s) where
   abbrev w : Worker
   w = e .was
 
   abbrev now : List Entry
-  now = past ++ (e ∷ [])
+  now = past ++ (acted e ∷ [])
 
   abbrev list : List Line
   list = listAfter past
@@ -135,14 +152,14 @@ module _
         subst (λ (x : Asked). TellsChange x a) (sym (asks-insert w (did .holder .kind))) (one-answer a 1 (sym is ∙ did .ends))
 
     commit-list : listAfter now ≡ added ∷ list
-    commit-list = list-settled past e (inl commit) ∙ ap (λ (x : Told). x .list) commit-told
+    commit-list = list-settled past (acted e) (inl commit) ∙ ap (λ (x : Told). x .list) commit-told
 
     commit-lists : Lists n now t
     commit-lists =
         record {
           there = λ l inside. shows-then l (subst (In l) commit-list inside);
           all = λ l shows. subst (In l) (sym commit-list) (listed-then l shows (from l shows));
-          long = rw commit-list (omega (arith, lists .long, count-more isCommit past e commit, count-same isClose past e (no-commit-closes e commit)));
+          long = rw commit-list (omega (arith, lists .long, count-more isCommit past (acted e) commit, count-same isClose past (acted e) (no-commit-closes e commit)));
         }
       where
         shows-then : (l : Line) → In l (added ∷ list) → Shows n t l
@@ -190,7 +207,7 @@ module _
         (omega (arith, one-answer a (w .seen) (sym is ∙ did .ends), found .1, ticket))
 
     close-list : listAfter now ≡ without (w .key) list
-    close-list = list-settled past e (inr close) ∙ ap (λ (x : Told). x .list) close-told
+    close-list = list-settled past (acted e) (inr close) ∙ ap (λ (x : Told). x .list) close-told
 
     -- the slot that is closed is the only one with its lot
     only : (l : Line) (shows : Shows n s l) → l .lot ≡ w .key → shows .slot ≡ w .slot
@@ -217,8 +234,8 @@ module _
                 arith,
                 lists .long,
                 without-length struck list (listed-once past) listed,
-                count-more isClose past e close,
-                count-same isCommit past e (λ commit. no-commit-closes e commit close),
+                count-more isClose past (acted e) close,
+                count-same isCommit past (acted e) (λ commit. no-commit-closes e commit close),
               ));
         }
       where
@@ -243,32 +260,25 @@ module _
             let before = stood l shows was key value in without-has (w .key) l (λ is. gone l shows is (only l before is)) list (lists .all l before)
         listed-then l shows (new commit again bucket slot key value) = absurd (no-commit-closes e commit close)
 
-  -- ---- neither
-
-  quiet-lists : (Settles e → ⊥) → ((b p : ℕ) → SameSlot (cellsAt s b) (cellsAt t b) p) → Lists n now t
-  quiet-lists quiet slots =
-      let same = list-quiet past e quiet in
-      record {
-        there = λ l inside. shows-on l (slots (bucketOf (l .lot) n)) (lists .there l (subst (In l) same inside));
-        all = λ l shows. subst (In l) (sym same) (lists .all l (shows-on l (λ p. same-back (slots (bucketOf (l .lot) n) p)) shows));
-        long =
-            rw same
-            (omega (
-              arith,
-              lists .long,
-              count-same isCommit past e (λ commit. quiet (inl commit)),
-              count-same isClose past e (λ close. quiet (inr close)),
-            ));
-      }
-
   -- a turn keeps the list what stands in the valid slots
   pub turn-lists : Lists n now t
   turn-lists = by deals
     where
       by : Deals s e t → Lists n now t
-      by (nothing unsettled slots versions) = quiet-lists unsettled slots
+      by (nothing unsettled slots) =
+          quiet-lists n past (acted e) lists unsettled (λ commit. unsettled (inl commit)) (λ close. unsettled (inr close)) slots
       by (comes commit did) = commit-lists commit did
       by (goes close did) = close-lists close did
+
+-- a retiring leaves the list and the slots
+pub retiring-lists :
+    (n : ℕ) {s t : State} {r : Retiring} (past : List Entry)
+    → Retires s r t
+    → Known s
+    → Lists n past s
+    → Lists n (past ++ (retired r ∷ [])) t
+retiring-lists n {r = r} past act known lists =
+    quiet-lists n past (retired r) lists (λ turn. turn) (λ turn. turn) (λ turn. turn) (retiring-slots act known)
 
 -- a start leaves the list and the slots
 pub start-lists :

@@ -11,20 +11,20 @@ use Rattle.mark.specs.Word.{markOf, setMark}
 use Rattle.mark.proofs.Fields.{mark-set, mark-set-other, mark-bump}
 use Rattle.turn.specs.declared.Worker.{Worker}
 use Rattle.turn.specs.declared.Stepped.{Stepped}
-use Rattle.turn.specs.Worker.{claimed}
+use Rattle.turn.specs.Worker.{noSlot, idle, claimed}
 use Rattle.turn.specs.Bucket.{markCell}
 use Rattle.turn.specs.Places.{claim, filled}
 use Rattle.turn.proofs.Outcomes.{Found, answers, refuses, gives-back, Empty, none, free, full, ready}
 use Rattle.turn.proofs.Outcomes.{Did, reads, loses, stores-value, stores-key, claims, commits, frees, closes}
-use Rattle.history.specs.Trace.{Entry}
+use Rattle.history.specs.Trace.{Turn, Retiring}
 use Rattle.history.specs.History.{State, Opening, Call, opened, recordOf, state, workersOf}
 use Rattle.history.specs.Cells.{cellsAt, markAt, home, Holds}
 use Rattle.history.proofs.View.{new-record, old-record}
 use Rattle.history.proofs.States.{view}
 use Rattle.history.proofs.Beginning.{history-good}
-use Rattle.history.proofs.Steps.{Begins, Turns, stepOf, Lasts, calls-last}
+use Rattle.history.proofs.Steps.{Begins, Turns, Retires, stepOf, Lasts, calls-last}
 use Rattle.history.proofs.Account.{other-cells, turn-account, was-home, still-home}
-use Rattle.history.proofs.Cells.{holds-busy, opened-mark}
+use Rattle.history.proofs.Cells.{holds-busy, opened-mark, retire-marks, retire-empties}
 use Rattle.clerk.specs.Clerk.{IsHeldBy}
 use Rattle.clerk.proofs.Leads.{Leads, reads-leads}
 use Rattle.clerk.proofs.Leads as leads
@@ -140,7 +140,7 @@ still-held :
 still-held s t b p i buckets same held =
     record { holds = rw same (held .holds); bucket = rw (same, buckets) (held .bucket); slot = rw same (held .slot) }
 
-module _ {s t : State} {e : Entry} (act : Turns s e t) (old : Marked s) where
+module _ {s t : State} {e : Turn} (act : Turns s e t) (old : Marked s) where
   abbrev i : ℕ
   i = e .worker
 
@@ -225,9 +225,32 @@ start-marked {s} {t} {v} start old b p two =
     let same : recordOf t j ≡ recordOf s j = old-record (view s) (view t) who v (start .starts .records) j other in
     (j, rw (start .starts .records) (rw (length-set (s .records) who v) (was .1)), still-held s t b p j (start .buckets) same held)
 
--- every accepted start and every turn done keeps every slot with mark 2 held
+-- a slot that has mark 2 after a retiring had it before, and is not the one that was given back
+retiring-marked : {s t : State} {r : Retiring} → Retires s r t → Marked s → Marked t
+retiring-marked {s} {t} {r} act old b p two =
+    let was = old b p (retire-marks act b p 2 (omega arith) two) in
+    let j = was .0 in
+    let other : j ≡ r .worker → ⊥ = λ is. gone (subst (IsHeldBy s b p) is (was .2)) in
+    let same : recordOf t j ≡ recordOf s j = old-record (view s) (view t) (r .worker) idle (act .acts .records) j other in
+    let long : length (t .records) ≡ length (s .records) =
+    ap (λ (ws : List Worker). length ws) (act .acts .records) ∙ length-set (s .records) (r .worker) idle in
+    (j, subst (λ (n : ℕ). j < n) (sym long) (was .1), still-held s t b p j (act .buckets) same (was .2))
+  where
+    gone : IsHeldBy s b p (r .worker) → ⊥
+    gone held =
+        let some : r .was .held ≡ noSlot → ⊥ = rw (act .acts .was) (λ none. omega (arith, held .holds .1)) in
+        let here : r .bucket ≡ b = act .acts .bucket ∙ held .bucket in
+        let slot : r .was .held ≡ p = ap (λ (w : Worker). w .held) (act .acts .was) ∙ held .slot in
+        omega (arith, sym two ∙ ap (λ (b : ℕ). markAt t b p) (sym here) ∙ ap (markAt t (r .bucket)) (sym slot) ∙ retire-empties act some)
+
+-- every accepted start, every turn done and every retiring done keep every slot with mark 2 held
 marked-lasts : Lasts (λ s past ts. Marked s)
-marked-lasts = record { begins = λ past ts start old. start-marked start old; turns = λ past ts act old. turn-marked act old }
+marked-lasts =
+    record {
+      begins = λ past ts start old. start-marked start old;
+      turns = λ past ts act old. turn-marked act old;
+      retires = λ past ts act old. retiring-marked act old;
+    }
 
 -- ---- histories
 

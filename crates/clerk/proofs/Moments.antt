@@ -7,7 +7,7 @@ use mathlib.Core.Path.{_≡_, refl, sym, ap, subst}
 use native.Mathlib.Decide.{ℕ-discrete}
 use native.Mathlib.Omega.{arith}
 use lib.ListN.{take, drop}
-use Rattle.history.specs.Trace.{Entry}
+use Rattle.history.specs.Trace.{Entry, acted, IsTurn}
 use Rattle.clerk.specs.Does.{Line, line, Told, told, does}
 use Rattle.clerk.specs.Calls.{EndedCall, IsCallOf, Settles, isSettled, Fits, IsMomentOf, listAfter}
 use Rattle.clerk.specs.Sequence.{Placed, DoneAt}
@@ -78,7 +78,7 @@ earliestOf trace c = earliest (fitsAt trace c) (c .first) (c .last - c .first)
 -- the first of these turns commits or closes
 abbrev FirstSettles : List Entry → Type 0
 FirstSettles [] = ⊥
-FirstSettles (e ∷ es) = Settles e
+FirstSettles (e ∷ es) = IsTurn Settles e
 
 -- whether the first of these turns commits or closes
 abbrev isFirstSettled : (es : List Entry) → Dec (FirstSettles es)
@@ -112,7 +112,7 @@ module _ (trace : List Entry) (c : EndedCall) (is : IsCallOf trace c) where
     where
       by :
           (es : List Entry)
-          → es ≡ is .at .turn ∷ is .at .after
+          → es ≡ acted (is .at .turn) ∷ is .at .after
           → (d : Dec (FirstSettles es))
           → FoundUnless d trace c
           → DoneAt trace (record { call = c; moment = ite d (c .last) (earliestOf trace c) })
@@ -146,7 +146,7 @@ module _ (trace : List Entry) (c : EndedCall) (is : IsCallOf trace c) where
   pub finds-moment : ((Settles (is .at .turn) → ⊥) → (m : ℕ) × IsMomentOf trace c m) → MomentFound trace c
   finds-moment given = by (drop (c .last - 1) trace) (last-turn trace c is) (isSettledAt trace (c .last))
     where
-      by : (es : List Entry) → es ≡ is .at .turn ∷ is .at .after → (d : Dec (FirstSettles es)) → FoundUnless d trace c
+      by : (es : List Entry) → es ≡ acted (is .at .turn) ∷ is .at .after → (d : Dec (FirstSettles es)) → FoundUnless d trace c
       by es at (yes settled) = tt
       by es at (no quiet) =
           let has = given (λ settled. quiet (subst FirstSettles (sym at) settled)) in found (has .0) (has .1)

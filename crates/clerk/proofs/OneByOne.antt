@@ -10,7 +10,7 @@ use lib.ListN.{length, take, drop, length-append, take-append-drop}
 use lib.Seq.{take-at, take-all, length-take-le}
 use Rattle.turn.specs.declared.Progress.{Progress}
 use Rattle.turn.specs.declared.Progress.the-variants.{GoesOn, Ended}
-use Rattle.history.specs.Trace.{Entry}
+use Rattle.history.specs.Trace.{Turn, Entry, acted, retired, IsTurn}
 use Rattle.history.proofs.Numbered.{answered-ends}
 use Rattle.clerk.specs.Does.{Line, Told, does, answersTo, listLeft}
 use Rattle.clerk.specs.Calls.{EndedCall, IsCallOf, Fits, IsMomentOf, HasMoments, Settles, isSettled, listAfter}
@@ -18,7 +18,7 @@ use Rattle.walks.specs.Lists.{Each}
 use Rattle.clerk.specs.Sequence.{Placed, DoneAt, OneByOne, doneUntil, askedIn, answeredIn}
 use Rattle.walks.proofs.Lists.{each-left, each-right, each-both, each-then}
 use Rattle.clerk.proofs.ListAfter.{list-settled, list-quiet}
-use Rattle.clerk.proofs.Enumerated.{EndsAfter, callOf, endedAt, callsFrom, callsOf, one-answer}
+use Rattle.clerk.proofs.Enumerated.{EndsAfter, callOf, endedBy, endedAt, callsFrom, callsOf, one-answer}
 use Rattle.clerk.proofs.Enumerated.{each-is-call, calls-append, calls-later, ends-within, turn-is}
 use Rattle.clerk.proofs.Moments.{momentOf, atMoment, MomentFound, finds-moment}
 use Rattle.clerk.proofs.Sorted.{Any, ifSo, placedAt, placedFrom, At, Among, placed-each, placed-none, placed-append, from-among, from-append}
@@ -81,7 +81,7 @@ module _ (trace : List Entry) (given : HasMoments trace) where
   moments =
       each-then (IsCallOf trace) (MomentFound trace) (λ c is. finds-moment trace c is (given .others c is)) (callsOf trace) (each-is-call trace)
 
-  -- ---- one turn
+  -- ---- one entry
 
   module _ (past : List Entry) (e : Entry) (rest : List Entry) (cut : trace ≡ past ++ (e ∷ rest)) where
     abbrev next : List Entry
@@ -92,7 +92,7 @@ module _ (trace : List Entry) (given : HasMoments trace) where
 
     -- the calls that this turn ends
     abbrev here : List EndedCall
-    here = endedAt past e (e .report .progress)
+    here = endedAt past e
 
     -- the calls that later turns end
     abbrev later : List EndedCall
@@ -141,48 +141,70 @@ module _ (trace : List Entry) (given : HasMoments trace) where
         (each-both Done (EndsAfter n) later (each-right Done here later (each-right Done (callsOf past) (here ++ later) parts-done))
         (calls-later rest next n (omega (arith, length-append past (e ∷ [])))))))
 
+  -- ---- a turn that ends a call, or does not
+
+  module _ (past : List Entry) (e : Turn) (rest : List Entry) (cut : trace ≡ past ++ (acted e ∷ rest)) where
+    abbrev then : List Entry
+    then = past ++ (acted e ∷ [])
+
+    abbrev m : ℕ
+    m = length past + 1
+
     -- a call that this turn ends
     module _ (answer : ℕ) (told : e .report .progress ≡ Ended answer) (done : Done (callOf past e answer)) where
       abbrev c : EndedCall
       c = callOf past e answer
 
-      turn-e : done .is .at .turn ≡ e
-      turn-e = turn-is trace c (done .is) past e rest cut refl
+      turn-e : acted (done .is .at .turn) ≡ acted e
+      turn-e = turn-is trace c (done .is) past (acted e) rest cut refl
 
       -- by a commit or a close: the clerk does it on the list before this turn
-      gives-won : Settles e → (d : Dec (moment c ≡ n)) → Gives (listAfter past) (ifSo d c n []) (listAfter next)
+      gives-won : Settles e → (d : Dec (moment c ≡ m)) → Gives (listAfter past) (ifSo d c m []) (listAfter then)
       gives-won settled (yes at) =
           let is = given .won (record { before = past; turn = e; after = rest; cut = cut }) settled in
-          (one-answer _ _ (sym is ∙ told), sym (list-settled past e settled))
-      gives-won settled (no other) = absurd (other (done .won (rw turn-e settled)))
+          (one-answer _ _ (sym is ∙ told), sym (list-settled past (acted e) settled))
+      gives-won settled (no other) = absurd (other (done .won (subst (IsTurn Settles) (sym turn-e) settled)))
 
       -- by neither: if its moment is here, it is one more that leaves the list
-      gives-other : (Settles e → ⊥) → (d : Dec (moment c ≡ n)) → Gives (listAfter past) (ifSo d c n []) (listAfter next)
+      gives-other : (Settles e → ⊥) → (d : Dec (moment c ≡ m)) → Gives (listAfter past) (ifSo d c m []) (listAfter then)
       gives-other quiet (yes at) =
-          let is = done .other (λ settled. quiet (rw turn-e at settled)) in
-          let fits : Fits c (listAfter past) = subst (Fits c) (list-quiet past e quiet) (fits-here c (rw at at is)) in
-          (ap (λ (y : Told). y .answer) fits, ap (λ (y : Told). y .list) fits ∙ sym (list-quiet past e quiet))
-      gives-other quiet (no elsewhere) = sym (list-quiet past e quiet)
+          let is = done .other (λ settled. quiet (subst (IsTurn Settles) turn-e settled)) in
+          let fits : Fits c (listAfter past) = subst (Fits c) (list-quiet past (acted e) quiet) (fits-here past (acted e) rest cut c (rw at at is)) in
+          (ap (λ (y : Told). y .answer) fits, ap (λ (y : Told). y .list) fits ∙ sym (list-quiet past (acted e) quiet))
+      gives-other quiet (no elsewhere) = sym (list-quiet past (acted e) quiet)
 
-    gives-here :
+    by-progress :
         (p : Progress)
         → e .report .progress ≡ p
-        → Each Done (endedAt past e p)
+        → Each Done (endedBy past e p)
         → Dec (Settles e)
-        → Gives (listAfter past) (placedAt moment n (endedAt past e p)) (listAfter next)
-    gives-here GoesOn told done (yes settled) =
+        → Gives (listAfter past) (placedAt moment m (endedBy past e p)) (listAfter then)
+    by-progress GoesOn told done (yes settled) =
         absurd (answered-ends e _ (given .won (record { before = past; turn = e; after = rest; cut = cut }) settled) told)
-    gives-here GoesOn told done (no quiet) = sym (list-quiet past e quiet)
-    gives-here (Ended answer) told done (yes settled) = gives-won answer told (done .0) settled (ℕ-discrete (moment (callOf past e answer)) n)
-    gives-here (Ended answer) told done (no quiet) = gives-other answer told (done .0) quiet (ℕ-discrete (moment (callOf past e answer)) n)
+    by-progress GoesOn told done (no quiet) = sym (list-quiet past (acted e) quiet)
+    by-progress (Ended answer) told done (yes settled) = gives-won answer told (done .0) settled (ℕ-discrete (moment (callOf past e answer)) m)
+    by-progress (Ended answer) told done (no quiet) = gives-other answer told (done .0) quiet (ℕ-discrete (moment (callOf past e answer)) m)
 
-    -- the calls whose moment is this turn take the clerk from the list before it to the list after it
-    gives-turn : Gives (listAfter past) (placedAt moment n (callsOf trace)) (listAfter next)
+  -- the calls that an entry ends, and whose moment it is, take the clerk from the list before it to the list after it
+  gives-here :
+      (past : List Entry) (e : Entry) (rest : List Entry)
+      → trace ≡ past ++ (e ∷ rest)
+      → Each Done (endedAt past e)
+      → Gives (listAfter past) (placedAt moment (length past + 1) (endedAt past e)) (listAfter (past ++ (e ∷ [])))
+  gives-here past (acted e) rest cut done = by-progress past e rest cut (e .report .progress) refl done (isSettled (acted e))
+  gives-here past (retired r) rest cut done = sym (list-quiet past (retired r) (λ turn. turn))
+
+  module _ (past : List Entry) (e : Entry) (rest : List Entry) (cut : trace ≡ past ++ (e ∷ rest)) where
+    -- the calls whose moment is this entry take the clerk from the list before it to the list after it
+    gives-turn : Gives (listAfter past) (placedAt moment (length past + 1) (callsOf trace)) (listAfter (past ++ (e ∷ [])))
     gives-turn =
-        subst (λ (l : List Placed). Gives (listAfter past) l (listAfter next)) (sym placed-here)
-        (gives-append (placedAt moment n here) (placedAt moment n later) (listAfter past) (listAfter next) (listAfter next)
-        (gives-here (e .report .progress) refl (each-left Done here later (each-right Done (callsOf past) (here ++ later) parts-done)) (isSettled e))
-        gives-later)
+        let next : List Entry = past ++ (e ∷ []) in
+        let ended : List EndedCall = endedAt past e in
+        let more : List EndedCall = callsFrom next rest in
+        subst (λ (l : List Placed). Gives (listAfter past) l (listAfter next)) (sym (placed-here past e rest cut))
+        (gives-append (placedAt moment (length past + 1) ended) (placedAt moment (length past + 1) more) (listAfter past) (listAfter next) (listAfter next)
+        (gives-here past e rest cut (each-left Done ended more (each-right Done (callsOf past) (ended ++ more) (parts-done past e rest cut))))
+        (gives-later past e rest cut))
 
   -- ---- all turns
 

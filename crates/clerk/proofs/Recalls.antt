@@ -1,9 +1,8 @@
--- The mark word that a worker has in mind, beside the one on the board: how many commits lie between the two. While its version and its valid
--- slots are still the board's, nobody has committed or closed there: fewer than 2^32 commits are ever made, so that the version tells
--- each of them, and what was closed comes back by a commit alone. Assumes nothing.
-use Prim.Native.Nat.{ℕ, _+_, _%_, _^_, _≤_, _<_}
+-- The mark word that a worker has in mind, beside the one on the board: how far the version has moved between the two, by commits and by
+-- retirings. While its version and its valid slots are still the board's, nobody has committed or closed there: the version is moved fewer
+-- than 2^32 times, so that it tells each of them, and what was closed comes back by a commit alone. Assumes nothing.
+use Prim.Native.Nat.{ℕ, _+_, _^_, _<_}
 use mathlib.Core.List.{List, [], _∷_, _++_}
-use mathlib.Core.Logic.{inl}
 use mathlib.Core.Path.{_≡_, sym, ap, _∙_}
 use native.Mathlib.Decide.{ℕ-discrete}
 use native.Mathlib.Omega.{arith}
@@ -12,27 +11,28 @@ use Rattle.mark.proofs.Fields.{version-lt}
 use Rattle.turn.specs.declared.Worker.{Worker}
 use Rattle.turn.specs.Effects.{Effect, effectOn}
 use Rattle.engine.specs.Board.{bucketOf}
-use Rattle.history.specs.Trace.{Entry, Commits}
-use Rattle.history.specs.Counts.{commitsIn, isCommit}
+use Rattle.history.specs.Trace.{Turn, Retiring, Entry, acted, retired, Commits}
+use Rattle.history.specs.Counts.{isCommit}
 use Rattle.history.specs.History.{State, recordOf}
 use Rattle.history.specs.Cells.{cellsAt, markWordAt, home}
-use Rattle.history.proofs.View.{Aware}
+use Rattle.history.proofs.View.{View, Aware, Acts, act-version}
+use Rattle.history.proofs.Behind.{Behind, not-behind, behind-on, not-moved}
 use Rattle.history.proofs.Minds.{Minds, renews, keeps, forgets}
 use Rattle.history.proofs.Remembers.{act-minds}
-use Rattle.history.proofs.Steps.{Begins, Turns, stepOf}
-use Rattle.clerk.proofs.Counts.{count-more, count-le}
-use Rattle.clerk.proofs.Deals.{SameSlot, Commit, Close, no-commit-closes, Deals, nothing, comes, goes}
+use Rattle.history.proofs.Counts.{bumpOf, inBucket, in-bucket, in-bucket-most, one-yes}
+use Rattle.history.proofs.Cells.{retire-marks}
+use Rattle.history.proofs.Steps.{Begins, Turns, Retires, stepOf}
+use Rattle.clerk.proofs.Counts.{bumpsIn, bumps-then}
+use Rattle.clerk.proofs.Deals.{SameSlot, Close, Deals, nothing, comes, goes}
 use Rattle.clerk.proofs.Fates.{valid-before}
-use Rattle.clerk.proofs.Steps.{Sized, each-turn, each-start, start-cells}
+use Rattle.clerk.proofs.Steps.{Sized, each-turn, each-retiring, each-start, start-cells}
 
 -- ---- the word in mind, beside the mark word m
 
--- a word that was read tells nothing of the future: the board is so many commits further, and with none of them has no valid slot more
-pub record Recalls (commits m word : ℕ) : Type 0 where
-  pub since : ℕ
-  pub few : since ≤ commits
-  pub moved : version m ≡ (version word + since) % 2 ^ 32
-  pub old : since ≡ 0 → (p : ℕ) → markOf m p ≡ 1 → markOf word p ≡ 1
+-- a word that was read tells nothing of the future: it is behind the board's version, and where it is not the board has no valid slot more
+pub record Recalls (moves m word : ℕ) : Type 0 where
+  pub behind : Behind moves m word
+  pub old : behind .since ≡ 0 → (p : ℕ) → markOf m p ≡ 1 → markOf word p ≡ 1
 
 -- a word is still the board's, as far as the version and the valid slots go
 pub record Current (m word : ℕ) : Type 0 where
@@ -45,101 +45,100 @@ current-met met = record { same = ap version met; valid = λ p valid. rw met val
 
 -- what a worker recalls that has read the mark word in its round
 abbrev RecallsNow : ℕ → List Entry → State → Worker → Type 0
-RecallsNow n past s u = Aware u → Recalls (commitsIn past) (markWordAt s (home n u)) (u .word)
+RecallsNow n past s u = Aware u → Recalls (bumpsIn past) (markWordAt s (home n u)) (u .word)
 
 -- every worker recalls so the word that it has read
 abbrev pub Recalled : ℕ → List Entry → State → Type 0
 Recalled n past s = (i : ℕ) → RecallsNow n past s (recordOf s i)
 
+-- ---- over an entry
+
+-- any entry, on a board of k buckets, and a word that is kept over it
+module _
+    {k : ℕ} {s t : View} {e : Entry} {v : Worker} (past : List Entry) (act : Acts k s e v t) (word b : ℕ)
+    (known : Recalls (bumpsIn past) (s .marks b) word) where
+  abbrev after-it : List Entry
+  after-it = past ++ (e ∷ [])
+
+  -- how often it moved the version there
+  abbrev moves : ℕ
+  moves = inBucket b bumpOf e
+
+  -- as much further is the board than the word
+  abbrev further : Behind (bumpsIn after-it) (t .marks b) word
+  further =
+      behind-on (bumpsIn past) moves (bumpsIn after-it) (s .marks b) (t .marks b) word (act-version act b)
+      (omega (arith, bumps-then past e, in-bucket-most b bumpOf e)) (known .behind)
+
+  -- a worker recalls what it did, if no slot becomes valid there without a move of the version
+  recalls-then : (moves ≡ 0 → (p : ℕ) → markOf (t .marks b) p ≡ 1 → markOf (s .marks b) p ≡ 1) → Recalls (bumpsIn after-it) (t .marks b) word
+  recalls-then back =
+      record { behind = further; old = λ none p valid. known .old (omega (arith, none)) p (back (omega (arith, none)) p valid) }
+
+  -- where a word is still the board's after it, the version was not moved there, nor was it since the word was read
+  unmoved : bumpsIn after-it < 2 ^ 32 → Current (t .marks b) word → (moves ≡ 0) × (known .behind .since ≡ 0)
+  unmoved few current =
+      let none = not-moved (bumpsIn after-it) (t .marks b) word further few (current .same) in (omega (arith, none), omega (arith, none))
+
+  -- and so the word was the board's before it, if the slots that are valid there were so
+  current-then :
+      bumpsIn after-it < 2 ^ 32
+      → Current (t .marks b) word
+      → ((p : ℕ) → markOf (t .marks b) p ≡ 1 → markOf (s .marks b) p ≡ 1)
+      → Current (s .marks b) word
+  current-then few current back =
+      let none = unmoved few current .1 in
+      record { same = omega (arith, known .behind .moved, none, version-lt word); valid = λ p valid. back p (current .valid p valid) }
+
 -- ---- another worker's turn
 
-module _ {s t : State} {e : Entry} (past : List Entry) (deals : Deals s e t) (word b : ℕ) (known : Recalls (commitsIn past) (markWordAt s b) word) where
+module _
+    {s t : State} {e : Turn} (past : List Entry) (act : Turns s e t) (deals : Deals s e t) (word b : ℕ)
+    (known : Recalls (bumpsIn past) (markWordAt s b) word) where
   abbrev now : List Entry
-  now = past ++ (e ∷ [])
+  now = past ++ (acted e ∷ [])
 
-  more : commitsIn past ≤ commitsIn now
-  more = count-le isCommit past e
-
-  -- where the version stays, and no slot becomes valid
-  same-recalls :
-      version (markWordAt t b) ≡ version (markWordAt s b)
-      → (Commits e → b ≡ e .report .bucket → ⊥)
-      → Recalls (commitsIn now) (markWordAt t b) word
-  same-recalls same uncommitted =
-      record {
-        since = known .since;
-        few = omega (arith, known .few, more);
-        moved = same ∙ known .moved;
-        old = λ zero p valid. known .old zero p (valid-before b p deals uncommitted valid);
-      }
-
-  -- where a commit is made there
-  commit-recalls : Commits e → Commit s e t → b ≡ e .report .bucket → Recalls (commitsIn now) (markWordAt t b) word
-  commit-recalls commit did here =
-      let next : version (markWordAt t b) ≡ (version (markWordAt s b) + 1) % 2 ^ 32 = rw here (did .next) in
-      record {
-        since = known .since + 1;
-        few = omega (arith, known .few, count-more isCommit past e commit);
-        moved = omega (arith, next, known .moved);
-        old = λ none. absurd (omega arith);
-      }
+  -- a commit there moves the version
+  commit-moves : Commits e → b ≡ e .report .bucket → inBucket b bumpOf (acted e) ≡ 1
+  commit-moves commit here = in-bucket b bumpOf (acted e) (sym here) ∙ one-yes (isCommit (acted e)) commit
 
   -- a worker that has no turn recalls what it did
-  recalls-on : Recalls (commitsIn now) (markWordAt t b) word
-  recalls-on = by deals
-    where
-      by : Deals s e t → Recalls (commitsIn now) (markWordAt t b) word
-      by (nothing unsettled slots versions) = same-recalls (versions b tt) (λ commit here. unsettled (inl commit))
-      by (goes close did) = same-recalls (did .versions b tt) (λ commit here. no-commit-closes e commit close)
-      by (comes commit did) = at (ℕ-discrete b (e .report .bucket))
-        where
-          at : Dec (b ≡ e .report .bucket) → Recalls (commitsIn now) (markWordAt t b) word
-          at (no elsewhere) = same-recalls (did .versions b elsewhere) (λ again here. elsewhere here)
-          at (yes here) = commit-recalls commit did here
+  recalls-on : Recalls (bumpsIn now) (markWordAt t b) word
+  recalls-on =
+      recalls-then past (act .acts) word b known (λ quiet p valid.
+      valid-before b p deals (λ commit here. omega (arith, quiet, commit-moves commit here)) valid)
 
-  module _ (few : commitsIn now < 2 ^ 32) (current : Current (markWordAt t b) word) where
+  module _ (few : bumpsIn now < 2 ^ 32) (current : Current (markWordAt t b) word) where
     -- the word was the board's before the turn, and the turn left all valid slots there
     abbrev WasCurrent : Type 0
     WasCurrent = Current (markWordAt s b) word × ((p : ℕ) → SameSlot (cellsAt s b) (cellsAt t b) p)
 
-    same-before : version (markWordAt t b) ≡ version (markWordAt s b) → ((p : ℕ) → SameSlot (cellsAt s b) (cellsAt t b) p) → WasCurrent
-    same-before same slots = (record { same = sym same ∙ current .same; valid = λ p valid. slots p .back (current .valid p valid) }, slots)
-
-    -- a commit there has moved the version
-    not-commit : Commits e → Commit s e t → b ≡ e .report .bucket → ⊥
-    not-commit commit did here =
-        let next : version (markWordAt t b) ≡ (version (markWordAt s b) + 1) % 2 ^ 32 = rw here (did .next) in
-        omega (arith, next, known .moved, known .few, current .same, count-more isCommit past e commit, version-lt word)
+    still : ((p : ℕ) → SameSlot (cellsAt s b) (cellsAt t b) p) → WasCurrent
+    still slots = (current-then past (act .acts) word b known few current (λ p valid. slots p .back valid), slots)
 
     -- a close there has taken a mark that the word has, since no commit can have brought it
     not-close : Close s e t → b ≡ e .report .bucket → ⊥
     not-close did here =
-        let none : known .since ≡ 0 = omega (arith, did .versions b tt, known .moved, known .few, more, current .same, version-lt word) in
         let was : markOf (markWordAt s b) (e .was .slot) ≡ 1 = rw here (did .was) in
         let gone : markOf (markWordAt t b) (e .was .slot) ≡ 0 = rw here (did .gone) in
-        omega (arith, gone, current .valid _ (known .old none _ was))
+        omega (arith, gone, current .valid _ (known .old (unmoved past (act .acts) word b known few current .1) _ was))
 
     -- where a word is still the board's after a turn, it was so before, and the turn left all valid slots there
     pub current-before : WasCurrent
-    current-before = by deals
+    current-before = by deals (ℕ-discrete b (e .report .bucket))
       where
-        by : Deals s e t → WasCurrent
-        by (nothing unsettled slots versions) = same-before (versions b tt) (slots b)
-        by (comes commit did) = at (ℕ-discrete b (e .report .bucket))
-          where
-            at : Dec (b ≡ e .report .bucket) → WasCurrent
-            at (no elsewhere) = same-before (did .versions b elsewhere) (λ p. did .others b p (λ here same. elsewhere here))
-            at (yes here) = absurd (not-commit commit did here)
-        by (goes close did) = at (ℕ-discrete b (e .report .bucket))
-          where
-            at : Dec (b ≡ e .report .bucket) → WasCurrent
-            at (no elsewhere) = same-before (did .versions b tt) (λ p. did .others b p (λ here same. elsewhere here))
-            at (yes here) = absurd (not-close did here)
+        by : Deals s e t → Dec (b ≡ e .report .bucket) → WasCurrent
+        by (nothing unsettled slots) bucket = still (slots b)
+        by (comes commit did) (no elsewhere) = still (λ p. did .others b p (λ here same. elsewhere here))
+        by (comes commit did) (yes here) =
+            absurd (omega (arith, unmoved past (act .acts) word b known few current .0, commit-moves commit here))
+        by (goes close did) (no elsewhere) = still (λ p. did .others b p (λ here same. elsewhere here))
+        by (goes close did) (yes here) = absurd (not-close did here)
 
 -- ---- the worker's own turn, and a start
 
 module _
-    (n : ℕ) {s t : State} {e : Entry} (past : List Entry) (sized : Sized n s) (act : Turns s e t) (deals : Deals s e t)
+    (n : ℕ) {s t : State} {e : Turn} (past : List Entry) (sized : Sized n s) (act : Turns s e t) (deals : Deals s e t)
     (old : Recalled n past s) where
   abbrev v : Worker
   v = stepOf s e .stepped .worker
@@ -151,33 +150,49 @@ module _
   there : v .key ≡ recordOf s (e .worker) .key → home n v ≡ b
   there key = ap (λ (k : ℕ). bucketOf k n) key ∙ ap (bucketOf (recordOf s (e .worker) .key)) (sym sized) ∙ sym (act .acts .bucket)
 
-  mine : Minds (markWordAt s b) (recordOf s (e .worker)) (act .acts .effect) v → RecallsNow n (past ++ (e ∷ [])) t v
+  mine : Minds (markWordAt s b) (recordOf s (e .worker)) (act .acts .effect) v → RecallsNow n (past ++ (acted e ∷ [])) t v
   mine (renews how key word) aware =
       let same : v .word ≡ markWordAt t (home n v) = word ∙ sym (act .acts .here) ∙ ap (markWordAt t) (sym (there key)) in
-      record {
-        since = 0;
-        few = omega arith;
-        moved = omega (arith, version-lt (v .word), ap version same);
-        old = λ none p valid. rw same valid;
-      }
+      record { behind = not-behind _ _ _ same; old = λ none p valid. rw same valid }
   mine (keeps quiet call word from to) aware =
       let known = old (e .worker) (record { other = rw (← call .kind) (aware .other); from = from }) in
       let here : home n (recordOf s (e .worker)) ≡ b = sym (ap (λ (k : ℕ). bucketOf k n) (call .key)) ∙ there (call .key) in
       let mark : markWordAt t b ≡ markWordAt s b = act .acts .here ∙ ap (λ (f : Effect). effectOn f (markWordAt s b)) quiet in
-      rw (there (call .key), mark, word)
-      (record {
-        since = known .since;
-        few = omega (arith, known .few, count-le isCommit past e);
-        moved = rw (← here) (known .moved);
-        old = λ none p valid. known .old none p (rw (← here) at valid);
-      })
+      rw (there (call .key), word)
+      (recalls-then past (act .acts) _ b (rw here at known) (λ none p valid. rw (← mark) valid))
   mine (forgets unaware) aware = absurd (unaware aware)
 
   -- a turn keeps what each worker recalls
-  pub turn-recalled : Recalled n (past ++ (e ∷ [])) t
+  pub turn-recalled : Recalled n (past ++ (acted e ∷ [])) t
   turn-recalled =
-      each-turn act (λ j u. RecallsNow n (past ++ (e ∷ [])) t u) (mine (act-minds (act .acts)))
-      (λ j other aware. recalls-on past deals (recordOf s j .word) (home n (recordOf s j)) (old j aware))
+      each-turn act (λ j u. RecallsNow n (past ++ (acted e ∷ [])) t u) (mine (act-minds (act .acts)))
+      (λ j other aware. recalls-on past act deals (recordOf s j .word) (home n (recordOf s j)) (old j aware))
+
+-- ---- a retiring
+
+-- where a word is still the board's after a retiring, it was so before
+pub current-until :
+    {s t : State} {r : Retiring} (past : List Entry)
+    → Retires s r t
+    → (word b : ℕ)
+    → Recalls (bumpsIn past) (markWordAt s b) word
+    → bumpsIn (past ++ (retired r ∷ [])) < 2 ^ 32
+    → Current (markWordAt t b) word
+    → Current (markWordAt s b) word
+current-until past act word b known few current =
+    current-then past (act .acts) word b known few current (λ p valid. retire-marks act b p 1 (omega arith) valid)
+
+-- a retiring keeps what each other worker recalls
+pub retiring-recalled :
+    (n : ℕ) {s t : State} {r : Retiring} (past : List Entry)
+    → Retires s r t
+    → Recalled n past s
+    → Recalled n (past ++ (retired r ∷ [])) t
+retiring-recalled n {s} {t} {r} past act old =
+    each-retiring act (λ j u. RecallsNow n (past ++ (retired r ∷ [])) t u) (λ aware. absurd (omega (arith, aware .from)))
+    (λ j other aware.
+    recalls-then past (act .acts) (recordOf s j .word) (home n (recordOf s j)) (old j aware) (λ quiet p valid.
+    retire-marks act (home n (recordOf s j)) p 1 (omega arith) valid))
 
 -- a start keeps what each worker recalls
 pub start-recalled :

@@ -4,14 +4,10 @@ use mathlib.Core.List.{List, [], _∷_, _++_, append-assoc}
 use mathlib.Core.Logic.{inl, inr}
 use mathlib.Core.Path.{_≡_, refl, ap, _∙_}
 use native.Mathlib.Decide.{ℕ-discrete}
-use Rattle.history.specs.Trace.{Entry, By, Ends, None}
+use Rattle.history.specs.Trace.{Entry, who, By, OwnEnd, None}
 use Rattle.history.specs.InCall.{AtRest}
 use Rattle.history.proofs.Cuts.{some-later, none-nil, none-more, none-append}
 use Rattle.clerk.specs.Calls.{BeginsWith}
-
--- a turn by which worker i ends a call
-abbrev pub OwnEnd : ℕ → Entry → Type 0
-OwnEnd i e = By i e × Ends e
 
 -- turns with no end of a call of worker i, cut before the first one that it has
 pub record Awaits (i : ℕ) (es : List Entry) : Type 0 where
@@ -38,7 +34,7 @@ module _ (i : ℕ) where
   -- turns that end no call of a worker can be cut before the first one that it has
   pub awaits : (es : List Entry) → None (OwnEnd i) es → Awaits i es
   awaits [] none = record { waiting = []; rest = []; is = refl; others = none-nil (By i); begins = tt; unended = none }
-  awaits (e ∷ es) none = by (ℕ-discrete (e .worker) i) (awaits es (λ some. none (some-later (OwnEnd i) e es some)))
+  awaits (e ∷ es) none = by (ℕ-discrete (who e) i) (awaits es (λ some. none (some-later (OwnEnd i) e es some)))
     where
       by : Dec (By i e) → Awaits i es → Awaits i (e ∷ es)
       by (yes own) later = record { waiting = []; rest = e ∷ es; is = refl; others = none-nil (By i); begins = own; unended = none }

@@ -10,16 +10,16 @@ use Rattle.turn.specs.Bucket.{markCell}
 use Rattle.turn.proofs.Outcomes.{Same, Found, Empty, Did, reads, loses, stores-value, stores-key, claims, commits, frees, closes}
 use Rattle.turn.proofs.Outcomes as out
 use Rattle.engine.specs.Board.{bucketOf}
-use Rattle.history.specs.Trace.{Entry}
+use Rattle.history.specs.Trace.{Turn, Retiring}
 use Rattle.history.specs.History.{State, recordOf}
 use Rattle.history.specs.Cells.{cellsAt, markAt, home}
-use Rattle.history.proofs.Steps.{Begins, Turns}
+use Rattle.history.proofs.Steps.{Begins, Turns, Retires}
 use Rattle.history.proofs.Cells.{Known}
 use Rattle.clerk.proofs.Leads.{Leads, reads-leads}
 use Rattle.clerk.proofs.Leads as leads
-use Rattle.clerk.proofs.Steps.{Sized, each-turn, each-start, own-did, was-known}
+use Rattle.clerk.proofs.Steps.{Sized, each-turn, each-retiring, each-start, own-did, was-known}
 use Rattle.clerk.proofs.Begun.{start-fresh}
-use Rattle.clerk.proofs.Tickets.{Inserts, Own, Tickets, turn-same, start-same}
+use Rattle.clerk.proofs.Tickets.{Inserts, Own, Tickets, turn-same, retiring-same, start-same}
 
 -- a search past its first reading of a value: what it saw is at most the last ticket, and if it is the ticket of an insert under way, then the
 -- search has not yet read the mark, and the slot is the one that this insert holds
@@ -51,7 +51,7 @@ over-found (out.refuses kind held) from to = omega arith
 over-found (out.gives-back kind held) from to = omega arith
 
 module _
-    (n : ℕ) {s t : State} {e : Entry} (sized : Sized n s) (act : Turns s e t) (known : Known t) (before : Tickets n s) (after : Tickets n t)
+    (n : ℕ) {s t : State} {e : Turn} (sized : Sized n s) (act : Turns s e t) (known : Known t) (before : Tickets n s) (after : Tickets n t)
     (seen : Seen n s) where
   abbrev w : Worker
   w = e .was
@@ -127,6 +127,21 @@ module _
   -- a turn keeps what is known of the values that searches have seen
   pub turn-seen : Seen n t
   turn-seen = each-turn act (λ j. Past (Sees n t)) (mine (own-did act sized)) (λ j other from to. still (recordOf s j) (seen j from to))
+
+-- ---- a retiring
+
+-- a retiring keeps what is known of the values that searches have seen
+pub retiring-seen : (n : ℕ) {s t : State} {r : Retiring} → Retires s r t → Seen n s → Seen n t
+retiring-seen n {s} {t} act seen =
+    each-retiring act (λ j. Past (Sees n t)) (λ from to. absurd (omega arith))
+    (λ j other from to.
+    let u = recordOf s j in
+    let sees = seen j from to in
+    record {
+      slot = sees .slot;
+      most = rw (act .acts .last) (sees .most);
+      busy = retiring-same act (λ x. (u .place ≡ 3) × Own n x (home n u) (u .slot)) (u .seen) (sees .busy);
+    })
 
 -- ---- a start
 

@@ -2,7 +2,7 @@
 use Prim.Native.Nat.{ℕ, suc, _+_, _≤_}
 use mathlib.Core.Bool.{cond}
 use mathlib.Core.List.{List, [], _∷_, _++_}
-use mathlib.Core.Logic.{inl, inr}
+use mathlib.Core.Logic.{_⊎_, inl, inr}
 use mathlib.Core.Path.{_≡_, refl, sym, ap, _∙_}
 use native.Mathlib.Decide.{ℕ-discrete}
 use native.Mathlib.Omega.{arith}
@@ -12,12 +12,11 @@ use borrow.Author.Tests.{ne-eqb}
 use Rattle.mark.proofs.Choices.{by-cases}
 use Rattle.turn.specs.declared.Progress.{Progress}
 use Rattle.turn.specs.declared.Progress.the-variants.{GoesOn, Ended}
-use Rattle.history.specs.Trace.{Entry, By, Continues, Ends, None}
+use Rattle.history.specs.Trace.{Entry, acted, retired, who, By, Continues, Ends, OwnEnd, None}
 use Rattle.history.specs.InCall.{AtRest}
 use Rattle.history.proofs.Cuts.{some-here, some-later}
-use Rattle.history.proofs.Numbered.{answered-ends}
+use Rattle.history.proofs.Numbered.{goes-or-ends}
 use Rattle.clerk.specs.Calls.{EndedCall, IsCallOf, BeginsWith}
-use Rattle.clerk.proofs.Rests.{OwnEnd}
 
 -- the first turn of the call that is under way, or turn n if none is
 abbrev pub firstOr : ℕ → ℕ → ℕ
@@ -27,16 +26,33 @@ firstOr since n = cond (eqb since 0) n since
 pub first-or-some : (k n : ℕ) → 1 ≤ k → firstOr k n ≡ k
 first-or-some k n some = rw (ne-eqb k 0 (λ none. omega arith))
 
--- since when a call is under way after turn n: a turn of another worker leaves it, one that goes on is of it, one that ends it leaves none
-abbrev sinceNext : {A : Type 0} → ℕ → ℕ → Dec A → Progress → ℕ
-sinceNext n k (no other) progress = k
-sinceNext n k (yes own) GoesOn = firstOr k n
-sinceNext n k (yes own) (Ended answer) = 0
+-- since when a call is under way after turn n of its worker: one that goes on is of it, one that ends it leaves none
+abbrev sinceTurn : ℕ → ℕ → Progress → ℕ
+sinceTurn n k GoesOn = firstOr k n
+sinceTurn n k (Ended answer) = 0
+
+-- since when it is under way after entry n: another worker's leaves it, and a retiring leaves none
+abbrev sinceNext : {A : Type 0} → ℕ → ℕ → Dec A → Entry → ℕ
+sinceNext n k (no other) e = k
+sinceNext n k (yes own) (acted e) = sinceTurn n k (e .report .progress)
+sinceNext n k (yes own) (retired r) = 0
+
+next-goes : (n k : ℕ) (e : Entry) {A : Type 0} (own : A) → Continues e → sinceNext n k (yes own) e ≡ firstOr k n
+next-goes n k (acted e) own goes = rw goes
+next-goes n k (retired r) own goes = absurd goes
+
+next-ends : (n k : ℕ) (e : Entry) {A : Type 0} (own : A) → Ends e → sinceNext n k (yes own) e ≡ 0
+next-ends n k (acted e) own ends = by (e .report .progress) refl
+  where
+    by : (p : Progress) → e .report .progress ≡ p → sinceTurn n k p ≡ 0
+    by GoesOn goes = absurd (ends goes)
+    by (Ended answer) over = refl
+next-ends n k (retired r) own ends = refl
 
 module _ (i : ℕ) where
   -- since when worker i has a call under way after this turn, which is turn n
   abbrev sinceThen : ℕ → ℕ → Entry → ℕ
-  sinceThen n k e = sinceNext n k (ℕ-discrete (e .worker) i) (e .report .progress)
+  sinceThen n k e = sinceNext n k (ℕ-discrete (who e) i) e
 
   -- since when worker i has a call under way after turns from turn n on, where before them it had one since turn k
   abbrev sinceFrom : ℕ → ℕ → List Entry → ℕ
@@ -50,38 +66,37 @@ module _ (i : ℕ) where
   -- ---- one turn
 
   then-other : (n k : ℕ) (e : Entry) → (By i e → ⊥) → sinceThen n k e ≡ k
-  then-other n k e other = by (ℕ-discrete (e .worker) i)
+  then-other n k e other = by (ℕ-discrete (who e) i)
     where
-      by : (d : Dec (By i e)) → sinceNext n k d (e .report .progress) ≡ k
+      by : (d : Dec (By i e)) → sinceNext n k d e ≡ k
       by (yes own) = absurd (other own)
       by (no isnot) = refl
 
   then-goes : (n k : ℕ) (e : Entry) → By i e → Continues e → sinceThen n k e ≡ firstOr k n
-  then-goes n k e own goes = by (ℕ-discrete (e .worker) i)
+  then-goes n k e own goes = by (ℕ-discrete (who e) i)
     where
-      by : (d : Dec (By i e)) → sinceNext n k d (e .report .progress) ≡ firstOr k n
-      by (yes is) = rw goes
+      by : (d : Dec (By i e)) → sinceNext n k d e ≡ firstOr k n
+      by (yes is) = next-goes n k e is goes
       by (no other) = absurd (other own)
 
   then-ends : (n k : ℕ) (e : Entry) → By i e → Ends e → sinceThen n k e ≡ 0
-  then-ends n k e own ends = by (ℕ-discrete (e .worker) i) (e .report .progress) refl
+  then-ends n k e own ends = by (ℕ-discrete (who e) i)
     where
-      by : (d : Dec (By i e)) (p : Progress) → e .report .progress ≡ p → sinceNext n k d p ≡ 0
-      by (yes is) GoesOn goes = absurd (ends goes)
-      by (yes is) (Ended answer) over = refl
-      by (no other) p told = absurd (other own)
+      by : (d : Dec (By i e)) → sinceNext n k d e ≡ 0
+      by (yes is) = next-ends n k e is ends
+      by (no other) = absurd (other own)
 
-  -- a turn of the worker that ends no call goes on
+  -- what is the worker's and ends no call goes on
   goes-on : (e : Entry) → By i e → (OwnEnd i e → ⊥) → Continues e
-  goes-on e own on = by (e .report .progress) refl
+  goes-on e own on = by (goes-or-ends e)
     where
-      by : (p : Progress) → e .report .progress ≡ p → Continues e
-      by GoesOn goes = goes
-      by (Ended answer) over = absurd (on (own, answered-ends e answer over))
+      by : Continues e ⊎ Ends e → Continues e
+      by (inl goes) = goes
+      by (inr ends) = absurd (on (own, ends))
 
   -- a turn that ends no call of the worker leaves the call that is under way
   then-on : (n k : ℕ) (e : Entry) → (OwnEnd i e → ⊥) → 1 ≤ k → sinceThen n k e ≡ k
-  then-on n k e on some = by (ℕ-discrete (e .worker) i)
+  then-on n k e on some = by (ℕ-discrete (who e) i)
     where
       by : Dec (By i e) → sinceThen n k e ≡ k
       by (yes own) = then-goes n k e own (goes-on e own on) ∙ first-or-some k n some
@@ -111,12 +126,16 @@ module _ (i : ℕ) where
   since-under : (es : List Entry) (n k : ℕ) → k ≤ n → sinceFrom (suc n) k es ≤ n + length es
   since-under [] n k le = omega arith
   since-under (e ∷ es) n k le =
-      let rest = since-under es (suc n) (sinceThen (suc n) k e) (by (ℕ-discrete (e .worker) i) (e .report .progress)) in omega arith
+      let rest = since-under es (suc n) (sinceThen (suc n) k e) (by (ℕ-discrete (who e) i) e) in omega arith
     where
-      by : (d : Dec (By i e)) (p : Progress) → sinceNext (suc n) k d p ≤ suc n
-      by (yes own) GoesOn = by-cases (λ m. m ≤ suc n) (eqb k 0) (suc n) k (λ none. omega arith) (λ some. omega arith)
-      by (yes own) (Ended answer) = omega arith
-      by (no other) p = omega arith
+      turn : (p : Progress) → sinceTurn (suc n) k p ≤ suc n
+      turn GoesOn = by-cases (λ m. m ≤ suc n) (eqb k 0) (suc n) k (λ none. omega arith) (λ some. omega arith)
+      turn (Ended answer) = omega arith
+
+      by : {A : Type 0} (d : Dec A) (e : Entry) → sinceNext (suc n) k d e ≤ suc n
+      by (yes own) (acted e) = turn (e .report .progress)
+      by (yes own) (retired r) = omega arith
+      by (no other) e = omega arith
 
   -- ---- after a trace
 

@@ -1,4 +1,4 @@
--- All that holds of an opened board, one clause a file; that every start and every turn keeps it; and what follows for each turn of a history.
+-- All that holds of an opened board, one clause a file; that every start, turn and retiring keeps it; and what follows for each turn of a history.
 -- Assumes nothing.
 use Prim.Native.Nat.{ℕ, _+_, _^_, _<_}
 use mathlib.Core.List.{List, [], _∷_, _++_}
@@ -8,17 +8,16 @@ use native.Mathlib.Omega.{arith}
 use Rattle.turn.specs.declared.Worker.{Worker}
 use Rattle.turn.specs.declared.Progress.the-variants.{Ended}
 use Rattle.engine.specs.Board.{bucketOf}
-use Rattle.history.specs.Trace.{Entry, total}
-use Rattle.history.specs.Counts.{commitsIn}
+use Rattle.history.specs.Trace.{Turn, Retiring, Entry, acted, retired, IsTurn, total}
 use Rattle.history.specs.History.{State, Opening, Call, opened, recordOf, state, trace}
 use Rattle.history.specs.Values.{tickets}
 use Rattle.history.specs.Cells.{cellsAt, home}
 use Rattle.history.proofs.View as walks
 use Rattle.history.proofs.View.{View, Acts}
 use Rattle.history.proofs.States.{view}
-use Rattle.history.proofs.Counts.{commitOf, onto, total-onto}
+use Rattle.history.proofs.Counts.{bumpOf, onto, total-onto}
 use Rattle.history.proofs.Good.{Good, walk-good}
-use Rattle.history.proofs.Steps.{Begins, Turns, stepOf, Lasts, calls-last}
+use Rattle.history.proofs.Steps.{Begins, Turns, Retires, Lasts, calls-last}
 use Rattle.history.proofs.Spent.{Spent, spent-lasts}
 use Rattle.history.proofs.Opened.{opened-is}
 use Rattle.history.proofs.Beginning.{rests, opened-unaware, opened-good}
@@ -30,17 +29,18 @@ use Rattle.clerk.specs.Does.{told, does, TellsChange}
 use Rattle.clerk.specs.Calls.{asks, Settles, listAfter}
 use Rattle.clerk.proofs.Listed.{quiet-tells}
 use Rattle.clerk.proofs.Since.{since}
+use Rattle.clerk.proofs.Counts.{bumpsIn}
 use Rattle.clerk.proofs.Sometime.{Sometime}
 use Rattle.clerk.proofs.Deals.{Deals, nothing, comes, goes, turn-deals}
-use Rattle.clerk.proofs.Recalls.{Recalled, turn-recalled, start-recalled}
-use Rattle.clerk.proofs.Knows.{Knowing, nothing-known, turn-knowing, start-knowing}
-use Rattle.clerk.proofs.Distinct.{Distinct, turn-distinct, start-distinct}
-use Rattle.clerk.proofs.Listing.{Lists, commit-answers, commit-tells, close-answers, close-tells, turn-lists, start-lists}
-use Rattle.clerk.proofs.Tickets.{Tickets, turn-tickets, start-tickets}
-use Rattle.clerk.proofs.Seen.{Seen, turn-seen, start-seen}
-use Rattle.clerk.proofs.Begun.{Begun, firstTurn, turn-begun, start-begun}
-use Rattle.clerk.proofs.Found.{HadSince, Founded, no-reasons, turn-founded, start-founded}
-use Rattle.clerk.proofs.Zero.{Missing, turn-missing, start-missing}
+use Rattle.clerk.proofs.Recalls.{Recalled, turn-recalled, retiring-recalled, start-recalled}
+use Rattle.clerk.proofs.Knows.{Knowing, nothing-known, turn-knowing, retiring-knowing, start-knowing}
+use Rattle.clerk.proofs.Distinct.{Distinct, turn-distinct, retiring-distinct, start-distinct}
+use Rattle.clerk.proofs.Listing.{Lists, commit-answers, commit-tells, close-answers, close-tells, turn-lists, retiring-lists, start-lists}
+use Rattle.clerk.proofs.Tickets.{Tickets, turn-tickets, retiring-tickets, start-tickets}
+use Rattle.clerk.proofs.Seen.{Seen, turn-seen, retiring-seen, start-seen}
+use Rattle.clerk.proofs.Begun.{Begun, firstTurn, turn-begun, retiring-begun, start-begun}
+use Rattle.clerk.proofs.Found.{HadSince, Founded, no-reasons, turn-founded, retiring-founded, start-founded}
+use Rattle.clerk.proofs.Zero.{Missing, turn-missing, retiring-missing, start-missing}
 use Rattle.clerk.proofs.Answers.{turn-answers}
 use Rattle.clerk.proofs.Steps.{Sized}
 
@@ -48,13 +48,13 @@ use Rattle.clerk.proofs.Steps.{Sized}
 
 -- what is right of a turn e after these: a commit or a close gives the clerk's answer, and any other end gives one that was the clerk's at
 -- some turn of the call
-pub record Right (past : List Entry) (e : Entry) : Type 0 where
+pub record Right (past : List Entry) (e : Turn) : Type 0 where
   pub settled : Settles e → e .report .progress ≡ Ended (does (asks (e .was)) (listAfter past) .answer)
   pub ended :
       (Settles e → ⊥)
       → (a : ℕ)
       → e .report .progress ≡ Ended a
-      → Sometime (firstTurn (e .worker) past) (past ++ (e ∷ [])) (λ list. does (asks (e .was)) list ≡ told a list)
+      → Sometime (firstTurn (e .worker) past) (past ++ (acted e ∷ [])) (λ list. does (asks (e .was)) list ≡ told a list)
   -- which of the two it was is told by the answer
   pub tells : (a : ℕ) → e .report .progress ≡ Ended a → Settles e ↔ TellsChange (asks (e .was)) a
 
@@ -115,21 +115,27 @@ module _ (workers n version : ℕ) where
   onto-then [] e older = refl
   onto-then (x ∷ past) e older = onto-then past e (x ∷ older)
 
-  -- there are fewer commits than 2^32, since each has its ticket
-  few-commits : (s : View) {k : ℕ} (past : List Entry) → Good workers n version s (onto past []) k → commitsIn past < 2 ^ 32
-  few-commits s past good = omega (arith, good .tickets, good .fits, total-onto commitOf past [])
+  -- versions are moved less than 2^32 times, since each time has its ticket
+  few-moves : (s : View) {k : ℕ} (past : List Entry) → Good workers n version s (onto past []) k → bumpsIn past < 2 ^ 32
+  few-moves s past good = omega (arith, good .tickets, good .fits, total-onto bumpOf past [])
 
-  module _ {s t : State} {e : Entry} (past : List Entry) (ts : List ℕ) (act : Turns s e t) (old : Standing s past ts) where
+  -- with an entry more, what demand 3 follows from holds still
+  good-on :
+      {s : State} (t : State) (past : List Entry) (ts : List ℕ) (e : Entry) {v : Worker}
+      → Acts (s .floor .buckets) (view s) e v (view t)
+      → (old : Standing s past ts)
+      → Good workers n version (view t) (onto (past ++ (e ∷ [])) []) (0 + old .many)
+  good-on {s} t past ts e {v} act old =
+      subst (λ (es : List Entry). Good workers n version (view t) es (0 + old .many)) (sym (onto-then past e []))
+      (walk-good workers n version (walks.acts (subst (λ (k : ℕ). Acts k (view s) e v (view t)) (old .sized) act) walks.stays) (onto past []) (old .many)
+      (old .good))
+
+  module _ {s t : State} {e : Turn} (past : List Entry) (ts : List ℕ) (act : Turns s e t) (old : Standing s past ts) where
     abbrev now : List Entry
-    now = past ++ (e ∷ [])
+    now = past ++ (acted e ∷ [])
 
     good-then : Good workers n version (view t) (onto now []) (0 + old .many)
-    good-then =
-        subst (λ (es : List Entry). Good workers n version (view t) es (0 + old .many)) (sym (onto-then past e []))
-        (walk-good workers n version (walks.acts acted walks.stays) (onto past []) (old .many) (old .good))
-      where
-        acted : Acts n (view s) e (stepOf s e .stepped .worker) (view t)
-        acted = subst (λ (k : ℕ). Acts k (view s) e (stepOf s e .stepped .worker) (view t)) (old .sized) (act .acts)
+    good-then = good-on t past ts (acted e) (act .acts) old
 
     known-then : Known t
     known-then = known-lasts .turns past ts act (old .known)
@@ -142,7 +148,7 @@ module _ (workers n version : ℕ) where
 
     turns-standing : Standing t now ts
     turns-standing =
-        let few = few-commits (view t) now good-then in
+        let few = few-moves (view t) now good-then in
         record {
           sized = act .buckets ∙ old .sized;
           many = 0 + old .many;
@@ -181,7 +187,7 @@ module _ (workers n version : ℕ) where
         }
       where
         tell : (a : ℕ) → e .report .progress ≡ Ended a → Deals s e t → Settles e ↔ TellsChange (asks (e .was)) a
-        tell a is (nothing unsettled slots versions) = (
+        tell a is (nothing unsettled slots) = (
           λ settles. absurd (unsettled settles),
           λ changes. let some = answered unsettled a is in absurd (quiet-tells (asks (e .was)) _ a (some .holds) changes),
         )
@@ -195,16 +201,43 @@ module _ (workers n version : ℕ) where
         )
 
         by : Deals s e t → Settles e → e .report .progress ≡ Ended (does (asks (e .was)) (listAfter past) .answer)
-        by (nothing unsettled slots versions) settles = absurd (unsettled settles)
+        by (nothing unsettled slots) settles = absurd (unsettled settles)
         by (comes commit did) settles = commit-answers n past (old .sized) act (old .known) (old .knowing) (old .distinct) (old .lists) commit did
         by (goes close did) settles = close-answers n past (old .sized) act (old .known) (old .knowing) (old .distinct) (old .lists) close did
+
+  -- ---- a retiring
+
+  retires-standing :
+      {s t : State} {r : Retiring} (past : List Entry) (ts : List ℕ)
+      → Retires s r t
+      → Standing s past ts
+      → Standing t (past ++ (retired r ∷ [])) ts
+  retires-standing {t = t} {r} past ts act old =
+      let good-then = good-on t past ts (retired r) (act .acts) old in
+      let few = few-moves (view t) (past ++ (retired r ∷ [])) good-then in
+      record {
+        sized = act .buckets ∙ old .sized;
+        many = 0 + old .many;
+        good = good-then;
+        known = known-lasts .retires past ts act (old .known);
+        spent = spent-lasts .retires past ts act (old .spent);
+        recalled = retiring-recalled n past act (old .recalled);
+        knowing = retiring-knowing n past act (old .known) few (old .recalled) (old .knowing);
+        distinct = retiring-distinct act (old .distinct);
+        lists = retiring-lists n past act (old .known) (old .lists);
+        tickets = retiring-tickets n act (old .tickets);
+        seen = retiring-seen n act (old .seen);
+        begun = retiring-begun past act (old .begun);
+        founded = retiring-founded n past act (old .founded);
+        missing = retiring-missing n past act (old .known) (old .missing);
+      }
 
   -- ---- histories
 
   -- all that holds, and every turn so far was right
   pub record Stood (s : State) (past : List Entry) (ts : List ℕ) : Type 0 where
     pub standing : Standing s past ts
-    pub turns : (before : List Entry) (e : Entry) (later : List Entry) → past ≡ before ++ (e ∷ later) → Right before e
+    pub turns : (before : List Entry) (e : Turn) (later : List Entry) → past ≡ before ++ (acted e ∷ later) → Right before e
 
   stood-lasts : Lasts Stood
   stood-lasts =
@@ -213,19 +246,35 @@ module _ (workers n version : ℕ) where
         turns = λ past ts act old.
             record {
               standing = turns-standing past ts act (old .standing);
-              turns = λ before d later cut. by past ts act old before d (cut-last _ d later past before cut);
+              turns = λ before d later cut. by past ts act old before d (cut-last _ (acted d) later past before cut);
+            };
+        retires = λ past ts act old.
+            record {
+              standing = retires-standing past ts act (old .standing);
+              turns = λ before d later cut. not-last past ts old before d (cut-last _ (acted d) later past before cut);
             };
       }
     where
       by :
-          {s t : State} {e : Entry} (past : List Entry) (ts : List ℕ)
+          {s t : State} {e : Turn} (past : List Entry) (ts : List ℕ)
           → Turns s e t
           → Stood s past ts
-          → (before : List Entry) (d : Entry)
-          → CutLast past e before d
+          → (before : List Entry) (d : Turn)
+          → CutLast past (acted e) before (acted d)
           → Right before d
-      by past ts act old before d (last is at) = rw (is, at) (turns-right past ts act (old .standing))
+      by past ts act old before d (last is at) =
+          rw is (subst (IsTurn (Right past)) (sym at) (turns-right past ts act (old .standing)))
       by past ts act old before d (sooner rest cut) = old .turns before d rest cut
+
+      -- a retiring is no turn
+      not-last :
+          {s : State} {r : Retiring} (past : List Entry) (ts : List ℕ)
+          → Stood s past ts
+          → (before : List Entry) (d : Turn)
+          → CutLast past (retired r) before (acted d)
+          → Right before d
+      not-last past ts old before d (last is at) = absurd (subst (IsTurn (λ t. Unit {0})) at tt)
+      not-last past ts old before d (sooner rest cut) = old .turns before d rest cut
 
 -- ---- an opening
 
@@ -269,4 +318,4 @@ module _ (o : Opening) where
       → Stood (o .plan .workers) (o .plan .buckets) (o .plan .version) (state o calls) (trace o calls) (tickets o calls)
   state-stood calls =
       calls-last _ (stood-lasts (o .plan .workers) (o .plan .buckets) (o .plan .version)) calls (opened o) [] []
-      (record { standing = opened-standing; turns = λ before e later cut. absurd (no-cut before e later cut) })
+      (record { standing = opened-standing; turns = λ before e later cut. absurd (no-cut before (acted e) later cut) })

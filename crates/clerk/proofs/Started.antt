@@ -1,5 +1,5 @@
--- Each call that ended was begun by a start that was accepted: a busy worker's start stands among the calls, it asks what the worker's
--- record asks, and no turn since has ended a call of that worker. Assumes nothing.
+-- Each call that ended, and each that its worker was retired from, was begun by a start that was accepted: a busy worker's start stands among
+-- the calls, it asks what the worker's record asks, and no call of that worker is over since. Assumes nothing.
 use Prim.Native.Nat.{ℕ, _+_}
 use mathlib.Core.Bool.{true}
 use mathlib.Core.List.{List, [], _∷_, _++_, append-assoc, append-nil}
@@ -11,9 +11,9 @@ use Rattle.turn.specs.declared.Worker.{Worker}
 use Rattle.turn.specs.declared.Progress.{Progress}
 use Rattle.turn.specs.declared.Progress.the-variants.{GoesOn, Ended}
 use Rattle.turn.specs.Worker.{mayStand}
-use Rattle.history.specs.Trace.{Entry, By, None}
+use Rattle.history.specs.Trace.{Turn, Retiring, Entry, acted, retired, who, wasOf, By, OwnEnd, None}
 use Rattle.history.specs.InCall.{AtRest}
-use Rattle.history.specs.History.{State, Opening, Call, look, insert, remove, turn, run, show, count, orders, opened, recordOf}
+use Rattle.history.specs.History.{State, Opening, Call, look, insert, remove, turn, retire, run, show, count, orders, opened, recordOf}
 use Rattle.history.specs.History.{after, entries, stateFrom, traceFrom, state, trace}
 use Rattle.history.proofs.View.{each-worker}
 use Rattle.history.proofs.States.{view}
@@ -22,15 +22,15 @@ use Rattle.history.proofs.Histories.{stateFrom-then, traceFrom-then}
 use Rattle.history.proofs.Cuts.{no-cut, none-nil, none-more}
 use Rattle.history.proofs.Later.{CutLast, last, sooner, cut-last, none-last}
 use Rattle.history.proofs.Numbered.{answered-ends}
-use Rattle.history.proofs.Steps.{Turns, stepOf, turn-lasts, run-lasts}
+use Rattle.history.proofs.Steps.{Turns, Retires, stepOf, turn-lasts, run-lasts, by-retiring}
 use Rattle.history.proofs.Account.{ended-idle, goes-busy, still-on}
 use Rattle.clerk.specs.Does.{Asked}
 use Rattle.clerk.specs.Calls.{EndedCall, IsCallOf, asks}
-use Rattle.clerk.specs.Clerk.{IsStart, looks, inserts, removes, Start, BegunBy}
+use Rattle.clerk.specs.Clerk.{IsStart, looks, inserts, removes, Start, BegunBy, AtRetiring, RetiredAt}
 use Rattle.clerk.proofs.Since.{firstOr, since, first-since}
-use Rattle.clerk.proofs.Rests.{OwnEnd, rest-on, awaits}
+use Rattle.clerk.proofs.Rests.{rest-on, awaits}
 use Rattle.clerk.proofs.Enumerated.{callOf, call-is, cut-at-end, one-call-an-end}
-use Rattle.clerk.proofs.Steps.{each-turn, goes-asks}
+use Rattle.clerk.proofs.Steps.{each-turn, each-retiring, goes-asks}
 use Rattle.clerk.proofs.Starting.{Tried, taken, refused, start-tried}
 
 -- ---- the call that a start began
@@ -41,11 +41,11 @@ module _ (o : Opening) (calls : List Call) (start : Start o calls) where
 
   -- where its worker was at rest before a start, the first turn since then that ends a call of that worker ends the one that the start began
   pub begun-by :
-      (between : List Entry) (e : Entry) (later : List Entry) (answer : ℕ)
-      → trace o calls ≡ (before ++ between) ++ (e ∷ later)
+      (between : List Entry) (e : Turn) (later : List Entry) (answer : ℕ)
+      → trace o calls ≡ (before ++ between) ++ (acted e ∷ later)
       → AtRest (start .worker) before
       → None (OwnEnd (start .worker)) between
-      → By (start .worker) e
+      → By (start .worker) (acted e)
       → asks (e .was) ≡ start .asked
       → e .report .progress ≡ Ended answer
       → BegunBy o calls start (callOf (before ++ between) e answer)
@@ -60,8 +60,8 @@ module _ (o : Opening) (calls : List Call) (start : Start o calls) where
         worker = own;
         asked = asked;
         waiting = a .waiting;
-        rest = a .rest ++ (e ∷ later);
-        turns = cut ∙ ap (λ (l : List Entry). l ++ (e ∷ later)) same ∙ simp append-assoc;
+        rest = a .rest ++ (acted e ∷ later);
+        turns = cut ∙ ap (λ (l : List Entry). l ++ (acted e ∷ later)) same ∙ simp append-assoc;
         others = a .others;
         first =
             ap (λ (j : ℕ). firstOr (since j past) (length past + 1)) own
@@ -93,10 +93,10 @@ module _ (o : Opening) where
     rests : w .kind ≡ 0 → AtRest i past
     works : (w .kind ≡ 0 → ⊥) → AtCall calls i w past
 
-  -- it is so of each worker, and each turn so far was of a call that began so
+  -- it is so of each worker, and each turn and each retiring so far was of a call that began so
   record Traced (calls : List Call) (s : State) (past : List Entry) : Type 0 where
     each : (i : ℕ) → Stays calls i (recordOf s i) past
-    turns : (before : List Entry) (e : Entry) (later : List Entry) → past ≡ before ++ (e ∷ later) → AtCall calls (e .worker) (e .was) before
+    turns : (before : List Entry) (e : Entry) (later : List Entry) → past ≡ before ++ (e ∷ later) → AtCall calls (who e) (wasOf e) before
 
   -- ---- one call more
 
@@ -158,7 +158,21 @@ module _ (o : Opening) where
           works = λ busy. begun-on w e refl (λ end. other (end .0)) (old .works busy);
         }
 
-  module _ (calls : List Call) {s t : State} {e : Entry} (past : List Entry) (act : Turns s e t) (old : Traced calls s past) where
+  -- an entry more, of a call that began so
+  traced-on :
+      (calls : List Call) (past : List Entry) (e : Entry)
+      → AtCall calls (who e) (wasOf e) past
+      → ((before : List Entry) (d : Entry) (later : List Entry) → past ≡ before ++ (d ∷ later) → AtCall calls (who d) (wasOf d) before)
+      → (before : List Entry) (d : Entry) (later : List Entry)
+      → past ++ (e ∷ []) ≡ before ++ (d ∷ later)
+      → AtCall calls (who d) (wasOf d) before
+  traced-on calls past e mine old before d later cut = by (cut-last e d later past before cut)
+    where
+      by : CutLast past e before d → AtCall calls (who d) (wasOf d) before
+      by (last is at) = rw is (subst (λ (x : Entry). AtCall calls (who x) (wasOf x) past) (sym at) mine)
+      by (sooner rest cut) = old before d rest cut
+
+  module _ (calls : List Call) {s t : State} {e : Turn} (past : List Entry) (act : Turns s e t) (old : Traced calls s past) where
     abbrev v : Worker
     v = stepOf s e .stepped .worker
 
@@ -169,30 +183,51 @@ module _ (o : Opening) where
     begun-was = subst (λ (w : Worker). Stays calls (e .worker) w past) (sym (act .acts .was)) (old .each (e .worker)) .works works-was
 
     -- a worker whose turn goes on is at the same call, and one whose turn ends its call is at none
-    mine : (p : Progress) → e .report .progress ≡ p → Stays calls (e .worker) v (past ++ (e ∷ []))
+    mine : (p : Progress) → e .report .progress ≡ p → Stays calls (e .worker) v (past ++ (acted e ∷ []))
     mine GoesOn goes =
         record {
           rests = λ none. absurd (works-was (sym (still-on act (goes-busy act goes) .call .kind) ∙ none));
-          works = λ some. begun-on calls (e .worker) (e .was) past v e (goes-asks act goes) (λ end. end .1 goes) begun-was;
+          works = λ some. begun-on calls (e .worker) (e .was) past v (acted e) (goes-asks act goes) (λ end. end .1 goes) begun-was;
         }
     mine (Ended answer) over =
         record {
           rests = λ none.
-              inr (record { older = past; entry = e; newer = []; cut = refl; holds = (refl, answered-ends e answer over, none-nil (By (e .worker))) });
+              inr (record { older = past; entry = acted e; newer = []; cut = refl; holds = (refl, answered-ends e answer over, none-nil (By (e .worker))) });
           works = λ some. absurd (some (ap (λ (x : Worker). x .kind) (ended-idle act answer over)));
         }
 
-    begun-cut : (before : List Entry) (d : Entry) → CutLast past e before d → AtCall calls (d .worker) (d .was) before
-    begun-cut before d (last is at) = rw (is, at) begun-was
-    begun-cut before d (sooner rest cut) = old .turns before d rest cut
-
-    turn-traced : Traced calls t (past ++ (e ∷ []))
+    turn-traced : Traced calls t (past ++ (acted e ∷ []))
     turn-traced =
         record {
           each =
-              each-turn act (λ (j : ℕ) (u : Worker). Stays calls j u (past ++ (e ∷ [])))
-              (mine (e .report .progress) refl) (λ j other. stays-on calls j (recordOf s j) past e (λ own. other (sym own)) (old .each j));
-          turns = λ before d later cut. begun-cut before d (cut-last e d later past before cut);
+              each-turn act (λ (j : ℕ) (u : Worker). Stays calls j u (past ++ (acted e ∷ [])))
+              (mine (e .report .progress) refl) (λ j other. stays-on calls j (recordOf s j) past (acted e) (λ own. other (sym own)) (old .each j));
+          turns = traced-on calls past (acted e) begun-was (old .turns);
+        }
+
+  -- ---- a retiring
+
+  module _ (calls : List Call) {s t : State} {r : Retiring} (past : List Entry) (act : Retires s r t) (old : Traced calls s past) where
+    abbrev now : List Entry
+    now = past ++ (retired r ∷ [])
+
+    retired-was : AtCall calls (r .worker) (r .was) past
+    retired-was =
+        subst (λ (w : Worker). Stays calls (r .worker) w past) (sym (act .acts .was)) (old .each (r .worker)) .works
+        (busy-kind _ _ (act .ok .sound .stands))
+
+    retire-traced : Traced calls t now
+    retire-traced =
+        record {
+          each =
+              each-retiring act (λ (j : ℕ) (u : Worker). Stays calls j u now)
+              (record {
+                rests = λ none.
+                    inr (record { older = past; entry = retired r; newer = []; cut = refl; holds = (refl, (λ goes. goes), none-nil (By (r .worker))) });
+                works = λ some. absurd (some refl);
+              })
+              (λ j other. stays-on calls j (recordOf s j) past (retired r) (λ own. other (sym own)) (old .each j));
+          turns = traced-on calls past (retired r) retired-was (old .turns);
         }
 
   -- ---- a start
@@ -236,6 +271,9 @@ module _ (o : Opening) where
     call-traced (turn i) =
         turn-lasts (λ (s : State) (past : List Entry) (ts : List ℕ). Traced (calls ++ (turn i ∷ [])) s past)
         (λ s t e past ts act traced. turn-traced _ past act traced) s i (trace o calls) [] (traced-then calls (turn i) old)
+    call-traced (retire i) =
+        by-retiring s i (λ (t : State) (es : List Entry). Traced (calls ++ (retire i ∷ [])) t (trace o calls ++ es))
+        (λ r t act. retire-traced _ (trace o calls) act (traced-then calls (retire i) old)) (rw (append-nil (trace o calls)) (traced-then calls (retire i) old))
     call-traced (run turns) =
         run-lasts (λ (s : State) (past : List Entry) (ts : List ℕ). Traced (calls ++ (run turns ∷ [])) s past)
         (λ s t e past ts act traced. turn-traced _ past act traced) s turns (trace o calls) [] (traced-then calls (run turns) old)
@@ -281,11 +319,35 @@ calls-started o calls c is =
     let at = is .at in
     let e = at .turn in
     let past = at .before ++ at .between in
-    let cut : trace o calls ≡ past ++ (e ∷ at .after) = cut-at-end (trace o calls) at in
-    let b = all-traced o calls .turns past e (at .after) cut in
+    let cut : trace o calls ≡ past ++ (acted e ∷ at .after) = cut-at-end (trace o calls) at in
+    let b = all-traced o calls .turns past (acted e) (at .after) cut in
     let now = trace o (b .start .earlier) ++ b .between in
-    let cut-now : trace o calls ≡ now ++ (e ∷ at .after) = cut ∙ ap (λ (l : List Entry). l ++ (e ∷ at .after)) (b .turns) in
+    let cut-now : trace o calls ≡ now ++ (acted e ∷ at .after) = cut ∙ ap (λ (l : List Entry). l ++ (acted e ∷ at .after)) (b .turns) in
     let begun = begun-by o calls (b .start) (b .between) e (at .after) (c .answer) cut-now (b .rested) (b .unended) (sym (b .own)) (b .asked) (is .answer) in
     let same : callOf now e (c .answer) ≡ c =
     one-call-an-end (trace o calls) _ c (begun .is) is (sym (is .last ∙ ap (λ (l : List Entry). length l + 1) (b .turns))) in
     (b .start, subst (BegunBy o calls (b .start)) same begun)
+
+-- §19.6: each retiring was from the call of a start that was accepted
+pub retirings-started : (o : Opening) (calls : List Call) (at : AtRetiring (trace o calls)) → RetiredAt o calls at
+retirings-started o calls at =
+    let r = at .retiring in
+    let b = all-traced o calls .turns (at .before) (retired r) (at .after) (at .cut) in
+    record {
+      start = b .start;
+      from =
+          record {
+            since = b .between;
+            retiring = r;
+            rest = at .after;
+            turns =
+                at .cut
+                ∙ ap (λ (l : List Entry). l ++ (retired r ∷ at .after)) (b .turns)
+                ∙ append-assoc (trace o (b .start .earlier)) (b .between) (retired r ∷ at .after);
+            worker = sym (b .own);
+            asks-it = b .asked;
+            unended = b .unended;
+          };
+      same = refl;
+      rest = refl;
+    }

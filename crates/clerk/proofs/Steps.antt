@@ -7,12 +7,12 @@ use Rattle.turn.specs.declared.Worker.{Worker}
 use Rattle.turn.specs.Worker.{idle}
 use Rattle.turn.proofs.Outcomes.{Did}
 use Rattle.engine.specs.Board.{bucketOf}
-use Rattle.history.specs.Trace.{Entry, Continues}
+use Rattle.history.specs.Trace.{Turn, Retiring, acted, Continues}
 use Rattle.history.specs.History.{State, recordOf}
 use Rattle.history.specs.Cells.{cellsAt, home}
 use Rattle.history.proofs.View.{each-worker}
 use Rattle.history.proofs.States.{view}
-use Rattle.history.proofs.Steps.{Begins, Turns, stepOf}
+use Rattle.history.proofs.Steps.{Begins, Turns, Retires, stepOf}
 use Rattle.history.proofs.Account.{turn-account, was-home, goes-busy, still-on}
 use Rattle.clerk.specs.Calls.{asks}
 
@@ -20,7 +20,7 @@ use Rattle.clerk.specs.Calls.{asks}
 abbrev pub Sized : ℕ → State → Type 0
 Sized n s = s .floor .buckets ≡ n
 
-module _ {s t : State} {e : Entry} (act : Turns s e t) where
+module _ {s t : State} {e : Turn} (act : Turns s e t) where
   -- what holds of the record that a turn leaves, and of each other one, holds of each
   pub each-turn :
       (P : ℕ → Worker → Type 0) → P (e .worker) (stepOf s e .stepped .worker) → ((j : ℕ) → (j ≡ e .worker → ⊥) → P j (recordOf s j))
@@ -41,12 +41,18 @@ module _ {s t : State} {e : Entry} (act : Turns s e t) where
     still-there busy = ap (λ (k : ℕ). bucketOf k n) (still-on act busy .call .key)
 
   -- a worker whose turn goes on asks what it asked before
-  pub goes-asks : Continues e → asks (stepOf s e .stepped .worker) ≡ asks (e .was)
+  pub goes-asks : Continues (acted e) → asks (stepOf s e .stepped .worker) ≡ asks (e .was)
   goes-asks goes = let call = still-on act (goes-busy act goes) .call in rw (call .kind, call .key, call .ticket)
 
   -- what held of the record of the worker whose turn it is holds of the record that the entry has
   pub was-known : (P : Worker → Type 0) → P (recordOf s (e .worker)) → P (e .was)
   was-known P known = rw (act .acts .was) known
+
+module _ {s t : State} {r : Retiring} (act : Retires s r t) where
+  -- what holds of the idle record that a retiring leaves, and of each other one, holds of each
+  pub each-retiring :
+      (P : ℕ → Worker → Type 0) → P (r .worker) idle → ((j : ℕ) → (j ≡ r .worker → ⊥) → P j (recordOf s j)) → (j : ℕ) → P j (recordOf t j)
+  each-retiring P = each-worker (view s) (view t) (r .worker) idle (act .acts .records) P (act .acts .within)
 
 module _ {s t : State} {v : Worker} {spent : List ℕ} (start : Begins s v spent t) where
   -- what holds of the record that a start leaves, and of each other one, holds of each

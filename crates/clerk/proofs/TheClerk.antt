@@ -1,6 +1,6 @@
 -- The whole board is one clerk, after every opening and every list of calls. Assumes nothing.
 use Prim.Native.Nat.{ℕ, _+_, _≤_}
-use mathlib.Core.List.{List, [], _∷_, _++_, append-assoc}
+use mathlib.Core.List.{List, [], _∷_, _++_, append-assoc, append-nil}
 use mathlib.Core.Logic.{_↔_}
 use mathlib.Core.Path.{_≡_, sym, ap, subst, _∙_}
 use native.Mathlib.Decide.{ℕ-discrete}
@@ -10,8 +10,10 @@ use lib.ListN.{length, take, length-append}
 use lib.Seq.{take-append-le}
 use Rattle.engine.specs.Board.{bucketOf}
 use Rattle.engine.specs.declared.Counted.the-variants.{Lots}
-use Rattle.history.specs.Trace.{Entry}
-use Rattle.history.specs.History.{State, Opening, Call, recordOf, state, trace}
+use Rattle.history.specs.Trace.{Entry, acted, retired}
+use Rattle.history.specs.History.{State, Opening, Call, retire, opened, recordOf, state, trace}
+use Rattle.history.proofs.Histories.{traceFrom-then}
+use Rattle.history.proofs.Steps.{by-retiring}
 use Rattle.history.specs.Openings as Openings
 use Rattle.history.specs.Openings.{historyOf}
 use Rattle.history.specs.Values.{valueAt, tickets}
@@ -31,9 +33,10 @@ use Rattle.clerk.proofs.Standing.{Standing, Right, Stood, state-stood}
 use Rattle.clerk.proofs.Marked.{state-held}
 use Rattle.clerk.proofs.Shown.{some-bucket, stands-home, shown-slots}
 use Rattle.clerk.proofs.Enumerated.{cut-at-end}
-use Rattle.clerk.proofs.Started.{calls-started}
+use Rattle.clerk.proofs.Started.{calls-started, retirings-started}
 use Rattle.clerk.proofs.Accounted.{starts-accounted}
-use Rattle.clerk.proofs.Paired.{one-start, one-call, not-ended}
+use Rattle.clerk.proofs.Paired.{one-start, one-call, not-ended, never-done, not-still, one-retiring, one-retired}
+use Rattle.clerk.proofs.ListAfter.{list-quiet}
 use Rattle.clerk.proofs.Arranged.{sequenceOf}
 use Rattle.clerk.proofs.OneByOne.{one-by-one}
 
@@ -120,13 +123,13 @@ module _ (o : Opening) (calls : List Call) where
   moment c is unsettled =
       let past = is .at .before ++ is .at .between in
       let e = is .at .turn in
-      let now = past ++ (e ∷ []) in
+      let now = past ++ (acted e ∷ []) in
       let some = last-right c is .ended unsettled (c .answer) (is .answer) in
       let m : ℕ = some .turn in
       let high : m ≤ length now = some .to in
-      let long : length now ≡ length past + 1 = length-append past (e ∷ []) in
+      let long : length now ≡ length past + 1 = length-append past (acted e ∷ []) in
       let same : take m turns ≡ take m now =
-      ap (take m) (cut-at-end turns (is .at) ∙ sym (append-assoc past (e ∷ []) (is .at .after))) ∙ take-append-le m now (is .at .after) high in (
+      ap (take m) (cut-at-end turns (is .at) ∙ sym (append-assoc past (acted e ∷ []) (is .at .after))) ∙ take-append-le m now (is .at .after) high in (
         m,
         record {
           within = record { from = omega (arith, call-first turns c is, some .from); to = omega (arith, is .last) };
@@ -143,6 +146,14 @@ module _ (o : Opening) (calls : List Call) where
         won = λ at settles. stood .turns (at .before) (at .turn) (at .after) (at .cut) .settled settles;
         others = moment;
       }
+
+  -- ---- a retiring
+
+  list-stays : (i : ℕ) → listAfter (trace o (calls ++ (retire i ∷ []))) ≡ listAfter turns
+  list-stays i =
+      ap listAfter (traceFrom-then (opened o) calls (retire i))
+      ∙ by-retiring s i (λ (t : State) (es : List Entry). listAfter (turns ++ es) ≡ listAfter turns)
+      (λ r t act. list-quiet turns (retired r) (λ turn. turn)) (ap listAfter (append-nil turns))
 
   -- the calls that ended, sorted by their moments, are one by one what the clerk did
   pub in-sequence : OneByOne turns (sequenceOf turns)
@@ -168,6 +179,12 @@ module _ (o : Opening) (calls : List Call) where
         one-start = one-start o calls;
         one-call = one-call o calls;
         not-ended = not-ended o calls;
+        never-done = never-done o calls;
+        not-still = not-still o calls;
+        retired-from = retirings-started o calls;
+        one-retiring = one-retiring o calls;
+        one-retired = one-retired o calls;
+        retiring-leaves = list-stays;
         moments = moments;
         told = λ c is. tells c is;
         one-by-one = (sequenceOf turns, in-sequence);

@@ -12,15 +12,16 @@ use Rattle.turn.specs.Bucket.{valueCell}
 use Rattle.turn.proofs.Values.{filled}
 use Rattle.turn.proofs.Stays.{StaysOn}
 use Rattle.engine.specs.Board.{bucketOf}
-use Rattle.history.specs.Trace.{Entry}
+use Rattle.history.specs.Trace.{Turn, Retiring, Entry}
 use Rattle.history.specs.History.{State, recordOf}
 use Rattle.history.specs.Values.{valueAt}
 use Rattle.history.specs.Cells.{home}
-use Rattle.history.proofs.Steps.{Spends, unticketed, ticketed, Begins, Turns, stepOf}
+use Rattle.history.proofs.Steps.{Spends, unticketed, ticketed, Begins, Turns, Retires, stepOf}
 use Rattle.history.proofs.Account.{still-on}
 use Rattle.history.proofs.Spent.{Spent}
+use Rattle.history.proofs.Cells.{retire-value}
 use Rattle.history.proofs.Written.{stores-at, turn-spares, store-writes}
-use Rattle.clerk.proofs.Steps.{Sized, each-turn, each-start, own-home, was-known, start-cells}
+use Rattle.clerk.proofs.Steps.{Sized, each-turn, each-retiring, each-start, own-home, was-known, start-cells}
 
 -- an insert under way
 abbrev pub Inserts : Worker → Type 0
@@ -47,7 +48,7 @@ pub record SameInsert (n : ℕ) (u v : Worker) : Type 0 where
   pub ticket : v .ticket ≡ u .ticket
   pub own : (b p : ℕ) → p ≤ 2 → Own n u b p → Own n v b p
 
-module _ (n : ℕ) {s t : State} {e : Entry} (act : Turns s e t) where
+module _ (n : ℕ) {s t : State} {e : Turn} (act : Turns s e t) where
   abbrev v : Worker
   v = stepOf s e .stepped .worker
 
@@ -73,7 +74,7 @@ module _ (n : ℕ) {s t : State} {e : Entry} (act : Turns s e t) where
       (λ j other insert. record { insert = insert; ticket = refl; own = λ b p few own. own })
 
 module _
-    (n : ℕ) {s t : State} {e : Entry} (past : List Entry) (ts : List ℕ) (sized : Sized n s) (act : Turns s e t) (spent : Spent s past ts)
+    (n : ℕ) {s t : State} {e : Turn} (past : List Entry) (ts : List ℕ) (sized : Sized n s) (act : Turns s e t) (spent : Spent s past ts)
     (old : Tickets n s) where
   abbrev w : Worker
   w = e .was
@@ -118,6 +119,29 @@ module _
         values = λ b p few. value-most b p few (value b p few);
         stands = λ i b p insert few. value-stands b p few (value b p few) i insert;
       }
+
+-- ---- a retiring
+
+-- what holds of every insert with this ticket holds of it after a retiring, which leaves no new one
+pub retiring-same :
+    {s t : State} {r : Retiring}
+    → Retires s r t
+    → (P : Worker → Type 0) (x : ℕ)
+    → ((i : ℕ) → Inserts (recordOf s i) → x ≡ recordOf s i .ticket → P (recordOf s i))
+    → (i : ℕ)
+    → Inserts (recordOf t i)
+    → x ≡ recordOf t i .ticket
+    → P (recordOf t i)
+retiring-same act P x old = each-retiring act (λ j u. Inserts u → x ≡ u .ticket → P u) (λ insert. absurd (omega arith)) (λ j other. old j)
+
+-- a retiring keeps every ticket where it may stand
+pub retiring-tickets : (n : ℕ) {s t : State} {r : Retiring} → Retires s r t → Tickets n s → Tickets n t
+retiring-tickets n {s} act old =
+    record {
+      values = λ b p few. rw (retire-value act b p, act .acts .last) (old .values b p few);
+      stands = λ i b p insert few is.
+          retiring-same act (λ u. Own n u b p) (valueAt s b p) (λ j inserts. old .stands j b p inserts few) i insert (sym (retire-value act b p) ∙ is);
+    }
 
 -- ---- a start
 

@@ -5,7 +5,7 @@ use mathlib.Core.Path.{_≡_, sym, ap, subst, _∙_}
 use native.Mathlib.Omega.{arith}
 use Rattle.turn.specs.declared.Worker.{Worker}
 use Rattle.turn.specs.Worker.{lookKind, insertKind, claimPlace}
-use Rattle.history.specs.Trace.{Entry, Wins, Commits, Closes}
+use Rattle.history.specs.Trace.{Turn, acted, Closes, Wins, Commits}
 use Rattle.history.specs.History.{State}
 use Rattle.history.specs.Values.{valueAt}
 use Rattle.history.specs.Cells.{cellsAt, markWordAt, home}
@@ -19,7 +19,7 @@ use Rattle.clerk.proofs.Knows.{HasLot, knowledge, KnowsNow, Knowing}
 use Rattle.clerk.proofs.Rows.{rowAt}
 use Rattle.clerk.proofs.Steps.{Sized, own-home, was-known}
 
-module _ (n : ℕ) {s t : State} {e : Entry} (sized : Sized n s) (act : Turns s e t) (known : Known s) (knowing : Knowing n s) where
+module _ (n : ℕ) {s t : State} {e : Turn} (sized : Sized n s) (act : Turns s e t) (known : Known s) (knowing : Knowing n s) where
   abbrev w : Worker
   w = e .was
 
@@ -30,7 +30,7 @@ module _ (n : ℕ) {s t : State} {e : Entry} (sized : Sized n s) (act : Turns s 
   won-word : Wins e → markWordAt s b ≡ w .word
   won-word won =
       rw (act .acts .was)
-      (let went = act .acts .went .won won in sym (went .1) ∙ act-expects _ (view s) e _ (view t) (known .kept) (act .acts) (went .0))
+      (let went = act .acts .tells .went .won won in sym (went .1) ∙ act-expects _ (view s) (acted e) _ (view t) (known .kept) (act .acts) (went .0))
 
   -- so its worker knows what stands there
   won-knows : (k : ℕ) → w .place ≡ k → (w .kind ≡ lookKind → ⊥) → Wins e → rowAt (knowledge (cellsAt s b) w) k

@@ -11,18 +11,18 @@ use Rattle.turn.specs.Worker.{ticketPlace, idle}
 use Rattle.turn.specs.Bucket.{markCell, keyCell, valueCell}
 use Rattle.turn.proofs.Stays.{StaysOn}
 use Rattle.engine.specs.Board.{bucketOf}
-use Rattle.history.specs.Trace.{Entry, Closes}
+use Rattle.history.specs.Trace.{Turn, Retiring, Entry, acted, retired, Closes}
 use Rattle.history.specs.History.{State, recordOf}
 use Rattle.history.specs.Values.{valueAt}
 use Rattle.history.specs.Cells.{cellsAt, keyAt, markAt, home, Holds, keyPlace}
-use Rattle.history.proofs.Steps.{Begins, Turns, stepOf}
+use Rattle.history.proofs.Steps.{Begins, Turns, Retires, stepOf}
 use Rattle.history.proofs.Account.{action-is, still-on}
-use Rattle.history.proofs.Cells.{Known, marked-few, key-same}
+use Rattle.history.proofs.Cells.{Known, marked-few, key-same, retire-key}
 use Rattle.walks.specs.Lists.{Each}
 use Rattle.clerk.proofs.Listed.{NotOf}
-use Rattle.clerk.proofs.Since.{since, since-other, since-within, first-or-some}
+use Rattle.clerk.proofs.Since.{since, since-other, since-ends, since-within, first-or-some}
 use Rattle.clerk.proofs.Sometime.{Sometime, sometime-on, sometime-now, sometime-from}
-use Rattle.clerk.proofs.Deals.{no-commit-closes, turn-deals, busy-slots}
+use Rattle.clerk.proofs.Deals.{no-commit-closes, turn-deals, busy-slots, retiring-slots}
 use Rattle.clerk.proofs.Fates.{From, old, new, Fate, stays, closed, valid-from, valid-then}
 use Rattle.clerk.proofs.Knows.{HasLot, has-back, has-on, Knowing}
 use Rattle.clerk.proofs.Distinct.{Distinct}
@@ -34,7 +34,7 @@ use Rattle.clerk.proofs.Claims.{stored-key, claimed-by}
 use Rattle.clerk.proofs.Rows.{_▹_, among-first}
 use Rattle.clerk.proofs.Ahead as table
 use Rattle.clerk.proofs.Ahead.{NotHere, IsAhead, Ahead, ahead-on, ahead-did}
-use Rattle.clerk.proofs.Steps.{Sized, each-turn, each-start, own-home, own-did, was-known, start-cells}
+use Rattle.clerk.proofs.Steps.{Sized, each-turn, each-retiring, each-start, own-home, own-did, was-known, start-cells}
 
 -- at some turn since this one a lot was not in the list
 abbrev pub MissedSince : ℕ → List Entry → ℕ → Type 0
@@ -84,9 +84,9 @@ module _
 -- ---- a turn keeps it, and so does a start
 
 module _
-    (n : ℕ) {s t : State} {e : Entry} (past : List Entry) (sized : Sized n s) (act : Turns s e t) (known : Known s) (then : Known t)
+    (n : ℕ) {s t : State} {e : Turn} (past : List Entry) (sized : Sized n s) (act : Turns s e t) (known : Known s) (then : Known t)
     (knowing : Knowing n s) (distinct : Distinct s) (begun : Begun past s)
-    (lists : Lists n (past ++ (e ∷ [])) t) (every : Missing n past s) where
+    (lists : Lists n (past ++ (acted e ∷ [])) t) (every : Missing n past s) where
   abbrev i : ℕ
   i = e .worker
 
@@ -97,7 +97,7 @@ module _
   v = stepOf s e .stepped .worker
 
   abbrev now : List Entry
-  now = past ++ (e ∷ [])
+  now = past ++ (acted e ∷ [])
 
   -- what is known of a call before a turn of its worker
   pub own-before : Before n past s (firstTurn i past) w
@@ -107,7 +107,7 @@ module _
 
   -- a lot that stands in no slot then is not in the list then
   pub absent-now : (first lot : ℕ) → first ≤ length past + 1 → Absent n t lot → MissedSince first now lot
-  absent-now first lot early absent = sometime-now past e early (none-listed lists lot absent)
+  absent-now first lot early absent = sometime-now past (acted e) early (none-listed lists lot absent)
 
   -- a slot that is held then has mark 2
   held-two : (h : ℕ) → Holds (recordOf t h) → (b : ℕ) → b ≡ home n (recordOf t h) → markAt t b (recordOf t h .held) ≡ 2
@@ -132,7 +132,7 @@ module _
         (has-on (busy-slots act known busy (home n w)) (w .key) (a .slot) (a .has))
 
     mine-busy : Before n past s (firstTurn i past) w → Missed n now t (firstTurn i past) v
-    mine-busy (missing missed) = inl (rw same-key (sometime-on past e missed))
+    mine-busy (missing missed) = inl (rw same-key (sometime-on past (acted e) missed))
     mine-busy (ahead a) = inr (record { slot = a .slot; has = still-has a; ahead = own-ahead a })
     mine-busy (nowhere absent) =
         inl (rw same-key (absent-now (firstTurn i past) (w .key) (first-turn-within i past)
@@ -218,16 +218,58 @@ module _
 
   others : (j : ℕ) → (j ≡ i → ⊥) → 1 ≤ since j now → Missed n now t (since j now) (recordOf s j)
   others j other some =
-      let same = since-other j past e (λ own. other (sym own)) in
+      let same = since-other j past (acted e) (λ own. other (sym own)) in
       subst (λ (first : ℕ). Missed n now t first (recordOf s j)) (sym same) (by (every j (omega (arith, same))))
     where
       by : Missed n past s (since j past) (recordOf s j) → Missed n now t (since j past) (recordOf s j)
-      by (inl missed) = inl (sometime-on past e missed)
+      by (inl missed) = inl (sometime-on past (acted e) missed)
       by (inr a) = others-ahead j other a
 
   -- a turn leaves every worker with its lot missed or ahead
   pub turn-missing : Missing n now t
   turn-missing = each-turn act (λ j u. 1 ≤ since j now → Missed n now t (since j now) u) mine others
+
+-- a retiring leaves every worker with its lot missed or ahead
+pub retiring-missing :
+    (n : ℕ) {s t : State} {r : Retiring} (past : List Entry)
+    → Retires s r t
+    → Known s
+    → Missing n past s
+    → Missing n (past ++ (retired r ∷ [])) t
+retiring-missing n {s} {t} {r} past act known every =
+    each-retiring act (λ j u. 1 ≤ since j now → Missed n now t (since j now) u)
+    (λ some. absurd (let none = since-ends (r .worker) past (retired r) refl (λ goes. goes) in omega arith)) others
+  where
+    now : List Entry
+    now = past ++ (retired r ∷ [])
+
+    -- a worker that is retired holds no slot any more
+    not-here : (x : Worker) → NotHere n s x → NotHere n t x
+    not-here x apart =
+        record {
+          key = λ is. apart .key (sym (retire-key act (home n x) (x .slot)) ∙ is);
+          nobody =
+              each-retiring act (λ h y. Holds y → y .key ≡ x .key → y .held ≡ x .slot → ⊥)
+              (λ holds key slot. omega (arith, holds .1)) (λ h another. apart .nobody h);
+        }
+
+    still : (x : Worker) (a : Ahead n s x) → Ahead n t x
+    still x a =
+        let same = retiring-slots act known (home n x) (a .slot) in
+        record {
+          slot = a .slot;
+          has = (same .on (a .has .0), same .key (a .has .0) ∙ a .has .1);
+          ahead = ahead-on n s t x (a .slot) (same .value (a .has .0)) (λ low apart. not-here x apart) (a .ahead);
+        }
+
+    others : (j : ℕ) → (j ≡ r .worker → ⊥) → 1 ≤ since j now → Missed n now t (since j now) (recordOf s j)
+    others j other some =
+        let same = since-other j past (retired r) (λ own. other (sym own)) in
+        subst (λ (first : ℕ). Missed n now t first (recordOf s j)) (sym same) (by (every j (omega (arith, same))))
+      where
+        by : Missed n past s (since j past) (recordOf s j) → Missed n now t (since j past) (recordOf s j)
+        by (inl missed) = inl (sometime-on past (retired r) missed)
+        by (inr a) = inr (still (recordOf s j) a)
 
 -- a start leaves every worker with its lot missed or ahead
 pub start-missing :

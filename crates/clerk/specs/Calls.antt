@@ -1,5 +1,6 @@
 -- The calls of a trace: what each asked, its first turn and its last, its answer; the clerk's list after a trace; and the moments of a call.
--- Turns are counted from 1, as in the listing, so that the first m turns of a trace are what was done when turn m was.
+-- Entries are counted from 1, so that the first m of a trace are what was done when entry m was; where nobody is retired these are the
+-- numbers of the turns, as in the listing.
 use Prim.Native.Nat.{ℕ, _+_, _≤_}
 use mathlib.Core.Bool.{cond}
 use mathlib.Core.List.{List, [], _∷_, _++_}
@@ -10,8 +11,8 @@ use lib.ListN.{length, take}
 use Rattle.turn.specs.declared.Worker.{Worker}
 use Rattle.turn.specs.declared.Progress.the-variants.{Ended}
 use Rattle.turn.specs.Worker.{lookKind, insertKind}
-use Rattle.history.specs.Trace.{Entry, Commits, Closes, By}
-use Rattle.history.specs.Counts.{either?, isCommit, isClose}
+use Rattle.history.specs.Trace.{Turn, Entry, acted, wasOf, Commits, Closes, IsTurn, By}
+use Rattle.history.specs.Counts.{either?, turn?, isCommit, isClose}
 use Rattle.history.specs.Moment.{AtTurn}
 use Rattle.history.specs.InCall.{InCall}
 use Rattle.clerk.specs.Does.{Line, Asked, look, insert, remove, told, does}
@@ -23,19 +24,19 @@ abbrev pub asks : Worker → Asked
 asks w = cond (eqb (w .kind) lookKind) (look (w .key)) (cond (eqb (w .kind) insertKind) (insert (w .key) (w .ticket)) (remove (w .key)))
 
 -- a commit or a close: a turn by which a lot comes to be valid, or ceases to be
-abbrev pub Settles : Entry → Type 0
+abbrev pub Settles : Turn → Type 0
 Settles e = Commits e ⊎ Closes e
 
--- whether a turn commits or closes
-abbrev pub isSettled : (e : Entry) → Dec (Settles e)
-isSettled e = either? (isCommit e) (isClose e)
+-- whether it is a turn that commits or closes
+abbrev pub isSettled : (e : Entry) → Dec (IsTurn Settles e)
+isSettled e = turn? (λ t. either? (isCommit (acted t)) (isClose (acted t))) e
 
--- a turn that commits or closes is done by the clerk, and any other leaves the list
-abbrev pub doneBy : (e : Entry) → Dec (Settles e) → List Line → List Line
-doneBy e (yes is) list = does (asks (e .was)) list .list
+-- a turn that commits or closes is done by the clerk, and any other leaves the list, as a retiring does
+abbrev pub doneBy : (e : Entry) → Dec (IsTurn Settles e) → List Line → List Line
+doneBy e (yes is) list = does (asks (wasOf e)) list .list
 doneBy e (no isnot) list = list
 
--- the list after turns, from a list
+-- the list after entries, from a list
 abbrev pub listFrom : List Line → List Entry → List Line
 listFrom list [] = list
 listFrom list (e ∷ es) = listFrom (doneBy e (isSettled e) list) es
@@ -54,7 +55,7 @@ pub record EndedCall : Type 0 where
   pub asked : Asked
   pub answer : ℕ
 
--- if there are turns, the first of them is worker i's
+-- if there are entries, the first of them is worker i's
 abbrev pub BeginsWith : ℕ → List Entry → Type 0
 BeginsWith i [] = Unit {0}
 BeginsWith i (e ∷ es) = By i e
@@ -74,7 +75,7 @@ pub record IsCallOf (trace : List Entry) (c : EndedCall) : Type 0 where
 
 -- ---- moments
 
--- turn m is one from a call's first to its last, both included
+-- entry m is one from a call's first turn to its last, both included
 pub record Within (c : EndedCall) (m : ℕ) : Type 0 where
   pub from : c .first ≤ m
   pub to : m ≤ c .last
@@ -83,7 +84,7 @@ pub record Within (c : EndedCall) (m : ℕ) : Type 0 where
 abbrev pub Fits : EndedCall → List Line → Type 0
 Fits c list = does (c .asked) list ≡ told (c .answer) list
 
--- §17.6: turn m is within the call, and the call fits the list as it stands just after that turn
+-- §17.6: entry m is within the call, and the call fits the list as it stands just after it
 pub record IsMomentOf (trace : List Entry) (c : EndedCall) (m : ℕ) : Type 0 where
   pub within : Within c m
   pub fits : Fits c (listAfter (take m trace))

@@ -2,7 +2,7 @@
 -- one by one (`runs-are-turns`), so that what is said of the state after calls is said after every call and after every turn. That it
 -- holds is `the-clerk`, in proofs/TheClerk.
 use Prim.Native.Nat.{ℕ, _+_, _≤_, _<_}
-use mathlib.Core.List.{List, _∷_, _++_}
+use mathlib.Core.List.{List, [], _∷_, _++_}
 use mathlib.Core.Logic.{_⊎_, _↔_}
 use mathlib.Core.Path.{_≡_}
 use lib.ListN.{length}
@@ -12,8 +12,8 @@ use Rattle.turn.specs.Bucket.{cell, markCell, keyCell, valueCell}
 use Rattle.engine.specs.Board.{bucketAt}
 use Rattle.engine.specs.Calls.{showCall, countCall}
 use Rattle.engine.specs.declared.Counted.the-variants.{Lots}
-use Rattle.history.specs.Trace.{Entry, By, Ends, None}
-use Rattle.history.specs.History.{State, Opening, Call, Ticket, recordOf, begins, state, trace, workersOf}
+use Rattle.history.specs.Trace.{Retiring, Entry, retired, By, OwnEnd, None}
+use Rattle.history.specs.History.{State, Opening, Call, Ticket, retire, recordOf, begins, state, trace, workersOf}
 use Rattle.history.specs.History as History
 use Rattle.history.specs.Cells.{markAt, home, Holds}
 use Rattle.clerk.specs.Does.{Line, Asked, look, insert, remove, TellsChange}
@@ -81,7 +81,36 @@ pub record StillAt (o : Opening) (calls : List Call) (start : Start o calls) : T
   -- no turn since the start has ended a call of that worker
   pub since : List Entry
   pub turns : trace o calls ≡ trace o (start .earlier) ++ since
-  pub unended : None (λ e. By (start .worker) e × Ends e) since
+  pub unended : None (OwnEnd (start .worker)) since
+
+-- ---- a call that is never done
+
+-- §19.6: the worker was retired from the call of that start
+pub record RetiredFrom (o : Opening) (calls : List Call) (start : Start o calls) : Type 0 where
+  -- what was done before the start, what was done since until the retiring, and the rest
+  pub since : List Entry
+  pub retiring : Retiring
+  pub rest : List Entry
+  pub turns : trace o calls ≡ trace o (start .earlier) ++ (since ++ (retired retiring ∷ rest))
+  -- it is the same worker's, and the record asks what the start asked
+  pub worker : retiring .worker ≡ start .worker
+  pub asks-it : asks (retiring .was) ≡ start .asked
+  -- no turn since the start has ended the call
+  pub unended : None (OwnEnd (start .worker)) since
+
+-- a trace, cut at a retiring
+pub record AtRetiring (trace : List Entry) : Type 0 where
+  pub before : List Entry
+  pub retiring : Retiring
+  pub after : List Entry
+  pub cut : trace ≡ before ++ (retired retiring ∷ after)
+
+-- §19.6: that retiring was from the call of one of the starts
+pub record RetiredAt (o : Opening) (calls : List Call) (at : AtRetiring (trace o calls)) : Type 0 where
+  pub start : Start o calls
+  pub from : RetiredFrom o calls start
+  pub same : from .retiring ≡ at .retiring
+  pub rest : from .rest ≡ at .after
 
 -- ---- all that is claimed
 
@@ -108,8 +137,8 @@ pub record Clerk (o : Opening) (calls : List Call) : Type 0 where
   pub held-once : (b p i j : ℕ) → IsHeldBy (state o calls) b p i → IsHeldBy (state o calls) b p j → i ≡ j
   -- §17.3: each call that ended was begun by a start that was accepted
   pub started : (c : EndedCall) → IsCallOf (trace o calls) c → (start : Start o calls) × BegunBy o calls start c
-  -- §17.3: each start that was accepted began a call that has ended, or its worker is at it still
-  pub accounted : (start : Start o calls) → ((c : EndedCall) × BegunBy o calls start c) ⊎ StillAt o calls start
+  -- §17.3, §19.6: each start that was accepted began a call that has ended, or its worker is at it still, or was retired from it
+  pub accounted : (start : Start o calls) → ((c : EndedCall) × BegunBy o calls start c) ⊎ (StillAt o calls start ⊎ RetiredFrom o calls start)
   -- §17.3: no call was begun by two starts
   pub one-start :
       (c : EndedCall) (one two : Start o calls) → BegunBy o calls one c → BegunBy o calls two c → one .earlier ≡ two .earlier
@@ -117,6 +146,21 @@ pub record Clerk (o : Opening) (calls : List Call) : Type 0 where
   pub one-call : (start : Start o calls) (c d : EndedCall) → BegunBy o calls start c → BegunBy o calls start d → c ≡ d
   -- §17.3: nor one that has ended while its worker is at it still
   pub not-ended : (start : Start o calls) (c : EndedCall) → BegunBy o calls start c → StillAt o calls start → ⊥
+  -- §19.6: a call that its worker was retired from has not ended, and has no answer
+  pub never-done : (start : Start o calls) (c : EndedCall) → BegunBy o calls start c → RetiredFrom o calls start → ⊥
+  -- §19.6: and the worker is not at it still
+  pub not-still : (start : Start o calls) → StillAt o calls start → RetiredFrom o calls start → ⊥
+  -- §19.6: each retiring was from the call of a start that was accepted
+  pub retired-from : (at : AtRetiring (trace o calls)) → RetiredAt o calls at
+  -- §19.6: from no start's call was there a second one, told by what was done after it
+  pub one-retiring : (start : Start o calls) (one two : RetiredFrom o calls start) → one .rest ≡ two .rest
+  -- §19.6: and none was from the calls of two starts
+  pub one-retired :
+      (first second : Start o calls) (one : RetiredFrom o calls first) (two : RetiredFrom o calls second)
+      → one .rest ≡ two .rest
+      → first .earlier ≡ second .earlier
+  -- §19.6: a retiring, done or refused, leaves the list
+  pub retiring-leaves : (i : ℕ) → listAfter (trace o (calls ++ (retire i ∷ []))) ≡ listAfter (trace o calls)
   -- §17.5, §17.6: won commits and closes are moments, and every other call that ended has one
   pub moments : HasMoments (trace o calls)
   -- §17.5: whether a call ended by a commit or a close is told by its answer

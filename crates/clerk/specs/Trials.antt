@@ -7,7 +7,7 @@ use mathlib.Core.List.{List, [], _∷_}
 use Rattle.turn.specs.declared.Action.the-variants.{Read}
 use Rattle.turn.specs.declared.Progress.the-variants.{Ended}
 use Rattle.turn.specs.Worker.{lookFor}
-use Rattle.history.specs.Trace.{Entry}
+use Rattle.history.specs.Trace.{Entry, acted}
 use Rattle.history.specs.History as History
 use Rattle.history.specs.History.{Call, ticket}
 use Rattle.history.specs.Trials.{A, B, C, turnsOf}
@@ -106,9 +106,9 @@ lookInTheGapSequence =
 -- a trace that no engine of the rules can leave: a look's only turn, on an empty board, which ends with the answer 5
 abbrev pub madeUp : List Entry
 madeUp =
-    record {
+    acted (record {
       worker = 0;
       was = lookFor 7;
       report = record { action = Read; progress = Ended 5; full = false; bucket = 0; before = 0; after = 0 };
-    }
+    })
     ∷ []

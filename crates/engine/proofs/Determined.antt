@@ -7,6 +7,7 @@ use denote.Ref.{RefT}
 use Rattle.turn.specs.declared.Worker.{Worker}
 use Rattle.turn.specs.declared.Report.{Report}
 use Rattle.turn.specs.declared.Tried.{Tried}
+use Rattle.turn.specs.declared.Retired.{Retired}
 use Rattle.mark.proofs.OneAnswer.{one-answer}
 use Rattle.turn.proofs.OneOutcome.{one-outcome}
 use Rattle.engine.specs.declared.Floor.{Floor}
@@ -16,7 +17,7 @@ use Rattle.engine.specs.declared.Laid.{Laid}
 use Rattle.engine.specs.declared.Started.{Started}
 use Rattle.engine.specs.declared.Totals.{Totals}
 use Rattle.engine.specs.declared.Counted.{Counted}
-use Rattle.engine.specs.Promises.{BlankMade, FloorLaid, StartDone, TurnTried, NoneCounted, TurnCounted, RunTested, ShowTested, ShowPlaced, Shown, CountDone}
+use Rattle.engine.specs.Promises.{BlankMade, FloorLaid, StartDone, TurnTried, WorkerRetired, NoneCounted, TurnCounted, RunTested, ShowTested, ShowPlaced, Shown, CountDone}
 
 -- the blank record
 pub blank-determined : (r t : Worker) → BlankMade r → BlankMade t → r ≡ t
@@ -45,6 +46,14 @@ pub turn-determined :
     → TurnTried board s w c t
     → (b ≡ c) × (r ≡ t)
 turn-determined board s w b c r t p q = one-outcome (p .whole) (q .whole)
+
+-- a retiring: the board, and what is handed back
+pub retire-determined :
+    (board : List ℕ) (s : Seat) (w : Worker) (b c : List ℕ) (r t : Retired)
+    → WorkerRetired board s w b r
+    → WorkerRetired board s w c t
+    → (b ≡ c) × (r ≡ t)
+retire-determined board s w b c r t p q = one-outcome (p .whole) (q .whole)
 
 -- the totals before the first turn
 pub nothing-determined : (r t : Totals) → NoneCounted r → NoneCounted t → r ≡ t

@@ -8,6 +8,7 @@ pub mod Numbers
 pub mod Parts
 pub mod Refused
 pub mod Reports
+pub mod Retiring
 pub mod Sizes
 pub mod Stops
 pub mod Tallies

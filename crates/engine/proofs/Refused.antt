@@ -7,12 +7,13 @@ use lib.Dec.{eqb}
 use borrow.Author.Tests.{ne-eqb}
 use Rattle.turn.specs.declared.Worker.{Worker}
 use Rattle.turn.specs.Turn.{after, refusing}
+use Rattle.turn.specs.Retire.{notRetired}
 use Rattle.engine.specs.declared.Floor.{Floor}
 use Rattle.engine.specs.declared.Plan.{Plan}
 use Rattle.engine.specs.declared.Seat.{Seat}
 use Rattle.engine.specs.declared.Counted.the-variants.{Refusal}
-use Rattle.engine.specs.Refusals.{openNumber, startNumber, turnNumber, runNumber, showNumber, countNumber}
-use Rattle.engine.specs.Calls.{planned, openCall, startCall, turned, turnCall, unbegun, runCall, showCall, countCall}
+use Rattle.engine.specs.Refusals.{openNumber, startNumber, turnNumber, retireNumber, runNumber, showNumber, countNumber}
+use Rattle.engine.specs.Calls.{planned, openCall, startCall, turned, turnCall, retired, retireCall, unbegun, runCall, showCall, countCall}
 
 -- a number other than 0 chooses the refusal
 refuses : {A : Type 0} (n : ℕ) (accepted refused : A) → (n ≡ 0 → ⊥) → cond (eqb n 0) accepted refused ≡ refused
@@ -52,6 +53,13 @@ module _ (board : List ℕ) (s : Seat) (w : Worker) where
       → turnCall board s w ≡ after board (refusing (turnNumber (s .floor) board (s .listed) (s .worker) w) w)
   unfolding turnCall turned
   turn-refused = refuses _ _ _
+
+  -- a retiring
+  pub retire-refused :
+      (retireNumber (s .floor) board (s .listed) (s .worker) w ≡ 0 → ⊥)
+      → retireCall board s w ≡ after board (notRetired (retireNumber (s .floor) board (s .listed) (s .worker) w) w)
+  unfolding retireCall retired
+  retire-refused = refuses _ _ _
 
 module _ (board : List ℕ) (f : Floor) where
   -- a show

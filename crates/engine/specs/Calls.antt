@@ -12,7 +12,9 @@ use Rattle.turn.specs.declared.Report.{Report}
 use Rattle.turn.specs.Worker.{freePlace, idle, lookFor, insertOf, removeOf}
 use Rattle.turn.specs.Places.{Step, turn}
 use Rattle.turn.specs.declared.Tried.{Tried}
+use Rattle.turn.specs.declared.Retired.{Retired}
 use Rattle.turn.specs.Turn.{Answer, Refused, Done, Turned, After, after, reportOf, refusing, doing, noReport, refused, done}
+use Rattle.turn.specs.Retire.{vacated, notRetired, isRetired}
 use Rattle.engine.specs.declared.Floor.{Floor}
 use Rattle.engine.specs.declared.Plan.{Plan}
 use Rattle.engine.specs.declared.Bid.{Bid}
@@ -23,7 +25,7 @@ use Rattle.engine.specs.declared.Totals.{Totals}
 use Rattle.engine.specs.declared.Counted.{Counted}
 use Rattle.engine.specs.declared.Counted.the-variants.{Refusal, Lots}
 use Rattle.engine.specs.Board.{bucketOf, withBucket, openedBoard, lotsOn}
-use Rattle.engine.specs.Refusals.{spent, bucketFor, openNumber, startNumber, eachNumber, turnNumber, runNumber, showNumber, countNumber}
+use Rattle.engine.specs.Refusals.{spent, bucketFor, openNumber, startNumber, eachNumber, turnNumber, retireNumber, runNumber, showNumber, countNumber}
 
 -- ---- open
 
@@ -108,6 +110,20 @@ tryCall board s w = tried (turnNumber (s .floor) board (s .listed) (s .worker) w
 -- one turn
 unfoldable pub turnCall : List ℕ → Seat → Worker → After Turned
 turnCall board s w = turned (turnNumber (s .floor) board (s .listed) (s .worker) w) (s .floor) board w
+
+-- ---- retire
+
+-- §19.2: the board with the bucket of the worker's lot as a retiring leaves it
+abbrev pub vacatedOn : Floor → List ℕ → Worker → List ℕ
+vacatedOn f board w = withBucket board (bucketOf (w .key) (f .buckets)) (vacated (bucketFor f board (w .key)) w)
+
+-- §7.1: what a retiring with this number of refusal, or 0, comes to
+unfoldable pub retired : ℕ → Floor → List ℕ → Worker → After Retired
+retired number f board w = cond (eqb number 0) (after (vacatedOn f board w) isRetired) (after board (notRetired number w))
+
+-- §19.1: retiring a worker
+unfoldable pub retireCall : List ℕ → Seat → Worker → After Retired
+retireCall board s w = retired (retireNumber (s .floor) board (s .listed) (s .worker) w) (s .floor) board w
 
 -- ---- run
 

@@ -6,6 +6,7 @@ use denote.Ref.{RefT}
 use Rattle.turn.specs.declared.Worker.{Worker}
 use Rattle.turn.specs.declared.Report.{Report}
 use Rattle.turn.specs.declared.Tried.{Tried}
+use Rattle.turn.specs.declared.Retired.{Retired}
 use Rattle.turn.specs.Turn.{after}
 use Rattle.engine.specs.declared.Floor.{Floor}
 use Rattle.engine.specs.declared.Plan.{Plan}
@@ -14,8 +15,8 @@ use Rattle.engine.specs.declared.Laid.{Laid}
 use Rattle.engine.specs.declared.Started.{Started}
 use Rattle.engine.specs.declared.Totals.{Totals}
 use Rattle.engine.specs.declared.Counted.{Counted}
-use Rattle.engine.specs.Refusals.{runRefusal, showNumber, countNumber}
-use Rattle.engine.specs.Calls.{blank, layCall, tryCall, noTurns, tallied, cappedTotals, showCall, showStart, wordsOn, countCall, countedNumber}
+use Rattle.engine.specs.Refusals.{retireNumber, runRefusal, showNumber, countNumber}
+use Rattle.engine.specs.Calls.{blank, layCall, tryCall, retireCall, noTurns, tallied, cappedTotals, showCall, showStart, wordsOn, countCall, countedNumber}
 
 -- what stands for a record past the end of a list
 pub record BlankMade (r : Worker) : Type 0 where
@@ -33,6 +34,11 @@ pub record StartDone {B : Type 0} (start : List ℕ → Seat → Worker → B �
 -- one turn: the board before and after, and what is handed back
 pub record TurnTried (board : List ℕ) (s : Seat) (w : Worker) (board′ : List ℕ) (r : Tried) : Type 0 where
   pub whole : after board′ r ≡ tryCall board s w
+
+-- a retiring: the board before and after, and what is handed back
+pub record WorkerRetired (board : List ℕ) (s : Seat) (w : Worker) (board′ : List ℕ) (r : Retired) : Type 0 where
+  pub whole : after board′ r ≡ retireCall board s w
+  pub number : r .refusal ≡ retireNumber (s .floor) board (s .listed) (s .worker) w
 
 -- no turn is counted yet
 pub record NoneCounted (r : Totals) : Type 0 where

@@ -7,6 +7,7 @@ use lib.Dec.{eqb, leb, ltb}
 use Rattle.turn.specs.Worker.{isIdle, broken, within}
 use Rattle.turn.specs.Bucket.{brokenBucket}
 use Rattle.turn.specs.Turn.{turnRefusal}
+use Rattle.turn.specs.Retire.{retireRefusal}
 use Rattle.turn.specs.declared.Worker.{Worker}
 use Rattle.engine.specs.declared.Floor.{Floor}
 use Rattle.engine.specs.Board.{bucketOf, bucketAt, anyBroken}
@@ -62,6 +63,11 @@ eachNumber f board i w = cond (noWorker f i) 2 (turnRefusal (bucketFor f board (
 -- §7.2: a turn's number
 unfoldable pub turnNumber : Floor → List ℕ → ℕ → ℕ → Worker → ℕ
 turnNumber f board listed i w = cond (wrongSizes f board listed) 1 (eachNumber f board i w)
+
+-- §7.2: a retiring's number
+unfoldable pub retireNumber : Floor → List ℕ → ℕ → ℕ → Worker → ℕ
+retireNumber f board listed i w =
+    cond (wrongSizes f board listed) 1 (cond (noWorker f i) 2 (retireRefusal (bucketFor f board (w .key)) w))
 
 -- §6.9: 9 for a run of more turns than may be, or 0
 abbrev pub tooLong : ℕ → ℕ

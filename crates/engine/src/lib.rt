@@ -3,16 +3,18 @@ ghost use mathlib.Core.Path.{_≡_};
 ghost use mathlib.Core.Bool.{cond};
 ghost use Rattle.engine.specs.Refusals.{recordNumber, startRefusal};
 ghost use Rattle.engine.specs.Calls.{startMade, lookCall, insertCall, removeCall};
-ghost use Rattle.engine.specs.Promises.{BlankMade, FloorLaid, StartDone, TurnTried, RunTested, Shown, ShowPlaced, ShowTested, CountDone};
+ghost use Rattle.engine.specs.Promises.{BlankMade, FloorLaid, StartDone, TurnTried, WorkerRetired, RunTested, Shown, ShowPlaced, ShowTested, CountDone};
+use turn::Retired;
 use turn::Tried;
 use turn::Worker;
 use turn::record;
 use turn::refusal;
+use turn::retire;
 
 pub mod tally; // what turns are counted by
 mod size; // whether floor, board and list fit together
 mod lay; // an opened board
-mod take; // a turn on the board
+mod take; // a turn or a retiring on the board
 mod lots; // the lots on the board
 
 // §2.1: the number of workers W, the number of buckets N, and the last ticket.
@@ -224,6 +226,20 @@ pub fn try_turn(board: &mut [u64], seat: Seat, w: Worker) -> Tried
         return turn::refused(refusal::NO_WORKER, w);
     }
     take::turn(board, floor, w)
+}
+
+// §19.1, §7.2: retires one worker, given its record.
+pub fn retire(board: &mut [u64], seat: Seat, w: Worker) -> Retired
+    ensures { λ r. ⌜ WorkerRetired (now (board .entry)) seat w (now (board .exit)) r ⌝ }
+{
+    let floor = seat.floor;
+    if size::are_wrong(board, floor, seat.listed) {
+        return retire::refused(refusal::WRONG_SIZES, w);
+    }
+    if floor.workers <= seat.worker {
+        return retire::refused(refusal::NO_WORKER, w);
+    }
+    take::retired(board, floor, w)
 }
 
 // §7.2: the number that refuses a run as a whole, or 0: of a board of so many words, a list of so many records, and so many turns.

@@ -1,11 +1,13 @@
-// A turn on the board, where floor and board fit together.
+// A turn and a retiring on the board, where floor and board fit together.
 ghost use mathlib.Core.Path.{_≡_};
 ghost use Rattle.turn.specs.Turn.{after, turnRefusal};
+ghost use Rattle.turn.specs.Retire.{retireRefusal};
 ghost use Rattle.engine.specs.Refusals.{bucketFor};
 ghost use Rattle.engine.specs.Room.{Right};
-ghost use Rattle.engine.specs.Calls.{tried};
+ghost use Rattle.engine.specs.Calls.{tried, retired};
 use crate::Floor;
 use crate::lots;
+use turn::Retired;
 use turn::Tried;
 use turn::Worker;
 
@@ -17,4 +19,13 @@ pub fn turn(board: &mut [u64], floor: Floor, w: Worker) -> Tried
     let bucket = lots::bucket_of(w.key, floor.buckets);
     let at = 8 * bucket;
     turn::try_turn(&mut board[at..at + 8], bucket, w)
+}
+
+// §2.4, §19.1: retires the worker on the bucket of its lot.
+pub fn retired(board: &mut [u64], floor: Floor, w: Worker) -> Retired
+    requires { ⌜ Right floor (now board) ⌝ }
+    ensures { λ r. ⌜ after (now (board .exit)) r ≡ retired (retireRefusal (bucketFor floor (now (board .entry)) (w .key)) w) floor (now (board .entry)) w ⌝ }
+{
+    let at = lots::first_word(w.key, floor.buckets);
+    turn::retire::on_bucket(&mut board[at..at + 8], w)
 }

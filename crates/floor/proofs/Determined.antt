@@ -19,7 +19,7 @@ use Rattle.floor.specs.declared.RunOutcome.{RunOutcome}
 use Rattle.floor.specs.declared.Part.{Part}
 use Rattle.floor.specs.declared.CountOutcome.{CountOutcome}
 use Rattle.floor.specs.Calls.{OnList, onList}
-use Rattle.floor.specs.Promises.{FloorOpened, StartLeft, TurnLeft, RunLeft, PartShown, CountLeft}
+use Rattle.floor.specs.Promises.{FloorOpened, StartLeft, TurnLeft, RetireLeft, RunLeft, PartShown, CountLeft}
 
 -- a list with an answer, taken apart
 apart : {A : Type 0} {one two : List Worker} {r t : A} → onList one r ≡ onList two t → (one ≡ two) × (r ≡ t)
@@ -59,6 +59,14 @@ pub desk-turn-determined :
     → TurnLeft board records f i c two t
     → (b ≡ c) × (one ≡ two) × (r ≡ t)
 desk-turn-determined board records f i b c one two r t p q = both-apart (p .whole) (q .whole)
+
+-- a retiring: the board, the list, and the number
+pub desk-retire-determined :
+    (board : List ℕ) (records : List Worker) (f : Floor) (i : ℕ) (b c : List ℕ) (one two : List Worker) (r t : ℕ)
+    → RetireLeft board records f i b one r
+    → RetireLeft board records f i c two t
+    → (b ≡ c) × (one ≡ two) × (r ≡ t)
+desk-retire-determined board records f i b c one two r t p q = both-apart (p .whole) (q .whole)
 
 -- a run: the board, the list, and what it tells
 pub desk-run-determined :

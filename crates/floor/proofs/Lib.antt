@@ -1,3 +1,4 @@
+pub mod Acts
 pub mod Determined
 pub mod Leaves
 pub mod Lend

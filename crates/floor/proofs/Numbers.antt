@@ -1,4 +1,4 @@
--- What the calls of a turn and of a count say is what their promises say: the equation, and the number that the answer tells.
+-- What the calls of a turn, of a retiring and of a count say is what their promises say: the equation, and the number that the answer tells.
 -- Assumes nothing.
 use Prim.Native.Nat.{ℕ}
 use mathlib.Core.Path.{_≡_, refl, ap, _∙_}
@@ -7,25 +7,40 @@ use lib.ListN.{length, set}
 use Rattle.turn.specs.declared.Worker.{Worker}
 use Rattle.turn.specs.declared.Said.{Said}
 use Rattle.turn.specs.declared.Tried.{Tried}
+use Rattle.turn.specs.declared.Retired.{Retired}
 use Rattle.turn.specs.Turn.{Answer, Refused, Done, Turned, After, after, numberOf, answerOf}
 use Rattle.engine.specs.declared.Floor.{Floor}
+use Rattle.engine.specs.declared.Seat.{Seat}
 use Rattle.engine.specs.declared.Counted.{Counted}
 use Rattle.engine.specs.declared.Counted.the-variants.{Refusal, Lots}
 use Rattle.engine.specs.Refusals.{turnNumber}
-use Rattle.engine.specs.Calls.{recordIn, seatIn, tryCall, turnCall, countedNumber}
-use Rattle.engine.specs.Promises.{TurnTried, CountDone}
+use Rattle.engine.specs.Calls.{recordIn, seatIn, tryCall, turnCall, retireCall, countedNumber}
+use Rattle.engine.specs.Promises.{TurnTried, WorkerRetired, CountDone}
 use Rattle.engine.proofs.Numbers.{turn-number}
 use Rattle.engine.proofs.Turns.{tried-is-turned}
 use Rattle.floor.specs.declared.TurnOutcome.{TurnOutcome}
 use Rattle.floor.specs.declared.CountOutcome.{CountOutcome}
 use Rattle.floor.specs.Told.{turnTold, countTold}
 use Rattle.floor.specs.Calls.{OnList, onList, sayIn, turnIn}
-use Rattle.floor.specs.Promises.{TurnLeft, CountLeft}
+use Rattle.floor.specs.Promises.{TurnLeft, RetireLeft, CountLeft}
 
 -- the number of a turn's answer is the one that crosses
 told-number : (a : Answer) → turnTold a .refusal ≡ numberOf a
 told-number (Refused number) = refl
 told-number (Done report) = refl
+
+-- a core that goes on with a record of the list: the record goes back there, and the rest is handed on
+put-back :
+    {D R : Type 0} (worker : D → Worker) (rest : D → R) (core : List ℕ → Seat → Worker → After D)
+    → (board : List ℕ) (records : List Worker) (f : Floor) (i : ℕ) (w : Worker) (o : D) (board′ : List ℕ) (records′ : List Worker)
+    → w ≡ recordIn records i
+    → after board′ o ≡ core board (seatIn f records i) w
+    → records′ ≡ set records i (worker o)
+    → let x = core board (seatIn f records i) (recordIn records i) in
+    after board′ (onList records′ (rest o)) ≡ after (x .words) (onList (set records i (worker (x .handed))) (rest (x .handed)))
+put-back {D} {R} worker rest core board records f i w o board′ records′ e₁ e₂ e₃ =
+    let put : After D → After (OnList R) = λ x. after (x .words) (onList (set records i (worker (x .handed))) (rest (x .handed))) in
+    rw (e₃, ← e₁) (ap put e₂)
 
 -- a turn as it is tried
 pub says-in :
@@ -35,9 +50,7 @@ pub says-in :
     → records′ ≡ set records i (o .worker)
     → after board′ (onList records′ (o .said)) ≡ sayIn board records f i
 says-in board records f i w o board′ records′ e₁ e₂ e₃ =
-    let put : After Tried → After (OnList Said) =
-    λ x. after (x .words) (onList (set records i (x .handed .worker)) (x .handed .said)) in
-    rw (e₃, ← e₁) (ap put (e₂ .whole))
+    put-back (λ (x : Tried). x .worker) (λ (x : Tried). x .said) tryCall board records f i w o board′ records′ e₁ (e₂ .whole) e₃
 
 -- a turn: what it says, told
 pub turn-left :
@@ -58,6 +71,19 @@ turn-left board records f i board′ records′ said r e₁ e₂ =
     record {
       whole = whole;
       number = ap (λ (x : After (OnList TurnOutcome)). x .handed .answer .refusal) whole ∙ told-number (turnCall board (seatIn f records i) w .handed .answer) ∙ turn-number board (seatIn f records i) w;
+    }
+
+-- a retiring
+pub retire-left :
+    (board : List ℕ) (records : List Worker) (f : Floor) (i : ℕ) (w : Worker) (o : Retired) (board′ : List ℕ) (records′ : List Worker)
+    → w ≡ recordIn records i
+    → WorkerRetired board (seatIn f records i) w board′ o
+    → records′ ≡ set records i (o .worker)
+    → RetireLeft board records f i board′ records′ (o .refusal)
+retire-left board records f i w o board′ records′ e₁ e₂ e₃ =
+    record {
+      whole = put-back (λ (x : Retired). x .worker) (λ (x : Retired). x .refusal) retireCall board records f i w o board′ records′ e₁ (e₂ .whole) e₃;
+      number = rw (← e₁) (e₂ .number);
     }
 
 -- the number of a count's answer is the one that crosses

@@ -9,11 +9,11 @@ use lib.Seq.{set-getD}
 use Rattle.turn.specs.declared.Worker.{Worker}
 use Rattle.turn.specs.Turn.{Refused, after}
 use Rattle.engine.specs.declared.Floor.{Floor}
-use Rattle.engine.specs.Refusals.{startNumber, turnNumber}
+use Rattle.engine.specs.Refusals.{startNumber, turnNumber, retireNumber}
 use Rattle.engine.specs.Calls.{blank, recordIn, seatIn, startCall}
 use Rattle.engine.proofs.Refused as engine
 use Rattle.floor.specs.Told.{turnTold}
-use Rattle.floor.specs.Calls.{onList, startIn, turnIn}
+use Rattle.floor.specs.Calls.{onList, startIn, turnIn, retireIn}
 
 module _ (board : List ℕ) (records : List Worker) (f : Floor) (i : ℕ) where
   -- a look, an insert and a remove, each a start that may be late
@@ -32,3 +32,11 @@ module _ (board : List ℕ) (records : List Worker) (f : Floor) (i : ℕ) where
       → turnIn board records f i ≡ after board (onList records (turnTold (Refused number)))
   desk-turn-refused some =
       rw (engine.turn-refused board (seatIn f records i) (recordIn records i) some, set-getD records i blank)
+
+  -- a retiring
+  pub desk-retire-refused :
+      let number = retireNumber f board (length records) i (recordIn records i) in
+      (number ≡ 0 → ⊥)
+      → retireIn board records f i ≡ after board (onList records number)
+  desk-retire-refused some =
+      rw (engine.retire-refused board (seatIn f records i) (recordIn records i) some, set-getD records i blank)

@@ -9,7 +9,7 @@ use Rattle.turn.specs.Turn.{After, after}
 use Rattle.engine.specs.declared.Floor.{Floor}
 use Rattle.engine.specs.declared.Seat.{Seat}
 use Rattle.engine.specs.declared.Started.{Started}
-use Rattle.engine.specs.Calls.{Ran, recordIn, seatIn, tryCall, turnCall, runCall}
+use Rattle.engine.specs.Calls.{Ran, recordIn, seatIn, tryCall, turnCall, retireCall, runCall}
 use Rattle.floor.specs.declared.Outcome.{Outcome}
 use Rattle.floor.specs.declared.TurnOutcome.{TurnOutcome}
 use Rattle.floor.specs.declared.RunOutcome.{RunOutcome}
@@ -41,6 +41,12 @@ abbrev pub turnIn : List ℕ → List Worker → Floor → ℕ → After (OnList
 turnIn board records f i =
     let x = turnCall board (seatIn f records i) (recordIn records i) in
     after (x .words) (onList (set records i (x .handed .worker)) (turnTold (x .handed .answer)))
+
+-- a retiring: the record goes back into the list, and the number is handed back
+abbrev pub retireIn : List ℕ → List Worker → Floor → ℕ → After (OnList ℕ)
+retireIn board records f i =
+    let x = retireCall board (seatIn f records i) (recordIn records i) in
+    after (x .words) (onList (set records i (x .handed .worker)) (x .handed .refusal))
 
 -- what the engine's run came to, as it goes out to C
 abbrev pub ranTold : After Ran → After (OnList RunOutcome)

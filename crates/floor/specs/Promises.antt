@@ -10,7 +10,7 @@ use Rattle.engine.specs.declared.Floor.{Floor}
 use Rattle.engine.specs.declared.Plan.{Plan}
 use Rattle.engine.specs.declared.Seat.{Seat}
 use Rattle.engine.specs.declared.Started.{Started}
-use Rattle.engine.specs.Refusals.{turnNumber, countNumber}
+use Rattle.engine.specs.Refusals.{turnNumber, retireNumber, countNumber}
 use Rattle.engine.specs.Calls.{openCall, recordIn, showCall, showStart, countCall}
 use Rattle.floor.specs.declared.Outcome.{Outcome}
 use Rattle.floor.specs.declared.TurnOutcome.{TurnOutcome}
@@ -18,7 +18,7 @@ use Rattle.floor.specs.declared.RunOutcome.{RunOutcome}
 use Rattle.floor.specs.declared.Part.{Part}
 use Rattle.floor.specs.declared.CountOutcome.{CountOutcome}
 use Rattle.floor.specs.Told.{countTold}
-use Rattle.floor.specs.Calls.{onList, startIn, turnIn, runIn}
+use Rattle.floor.specs.Calls.{onList, startIn, turnIn, retireIn, runIn}
 
 -- an opening: the board and the list before and after, and what is handed back
 pub record FloorOpened (board : List ℕ) (records : List Worker) (f : Floor) (p : Plan) (board′ : List ℕ) (records′ : List Worker) (r : Outcome) :
@@ -35,6 +35,11 @@ pub record TurnLeft (board : List ℕ) (records : List Worker) (f : Floor) (i : 
     (r : TurnOutcome) : Type 0 where
   pub whole : after board′ (onList records′ r) ≡ turnIn board records f i
   pub number : r .refusal ≡ turnNumber f board (length records) i (recordIn records i)
+
+-- a retiring: the board and the list before and after, and the number that is handed back
+pub record RetireLeft (board : List ℕ) (records : List Worker) (f : Floor) (i : ℕ) (board′ : List ℕ) (records′ : List Worker) (r : ℕ) : Type 0 where
+  pub whole : after board′ (onList records′ r) ≡ retireIn board records f i
+  pub number : r ≡ retireNumber f board (length records) i (recordIn records i)
 
 -- a run: the board and the list before and after, and what is handed back
 pub record RunLeft (board : List ℕ) (records : List Worker) (f : Floor) (turns board′ : List ℕ) (records′ : List Worker) (r : RunOutcome) :

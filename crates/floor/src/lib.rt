@@ -2,7 +2,7 @@
 // record that the call concerns, lets the engine go on with it, and puts it back. C calls them under these names: include/desk.h.
 ghost use Rattle.engine.specs.Calls.{lookCall, insertCall, removeCall};
 ghost use Rattle.engine.specs.Promises.{Shown, ShowTested};
-ghost use Rattle.floor.specs.Promises.{FloorOpened, StartLeft, TurnLeft, RunLeft, PartShown, CountLeft};
+ghost use Rattle.floor.specs.Promises.{FloorOpened, StartLeft, TurnLeft, RetireLeft, RunLeft, PartShown, CountLeft};
 use engine::Bid;
 use engine::Floor;
 use engine::Plan;
@@ -175,6 +175,28 @@ pub extern "C" fn desk_turn(
 {
     let said = list::turn_at(board, records, floor, worker);
     told::turn(said)
+}
+
+// §1.1: retires a worker; the number of refusal, or 0.
+#[no_mangle]
+pub extern "C" fn desk_retire(
+    board: &mut [u64],
+    records: &mut [Worker],
+    floor: Floor,
+    worker: usize,
+) -> u8
+    ensures { λ r. ⌜ RetireLeft (now (board .entry)) (now (records .entry)) floor worker (now (board .exit)) (now (records .exit)) r ⌝ }
+{
+    let listed = records.len();
+    let w = list::take_at(records, worker);
+    let seat = Seat {
+        floor,
+        listed,
+        worker,
+    };
+    let done = engine::retire(board, seat, w);
+    list::put_at(records, worker, done.worker);
+    done.refusal
 }
 
 // §1.1: runs a list of turns, each a worker's number, until one is refused.

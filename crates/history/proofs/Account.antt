@@ -18,12 +18,12 @@ use Rattle.turn.proofs.Outcome.{turn-did}
 use Rattle.turn.proofs.Stays.{StaysOn, turn-on}
 use Rattle.engine.specs.Board.{bucketOf, bucketAt}
 use Rattle.engine.proofs.Cut.{bucket-within, same-bucket, other-bucket}
-use Rattle.history.specs.Trace.{Entry, Continues}
+use Rattle.history.specs.Trace.{Turn, acted, Continues}
 use Rattle.history.specs.History.{State}
 use Rattle.history.specs.Cells.{home}
 use Rattle.history.proofs.Steps.{Turns, stepOf}
 
-module _ {s t : State} {e : Entry} (act : Turns s e t) where
+module _ {s t : State} {e : Turn} (act : Turns s e t) where
   abbrev bucket : List ℕ
   bucket = bucketAt (s .board) (e .report .bucket)
 
@@ -68,11 +68,11 @@ module _ {s t : State} {e : Entry} (act : Turns s e t) where
 
   -- a worker whose turn ends its call is idle after it
   pub ended-idle : (answer : ℕ) → e .report .progress ≡ Ended answer → stepOf s e .stepped .worker ≡ idle
-  ended-idle answer ended = subst (λ (p : Progress). Idles p (stepOf s e .stepped .worker)) ended (act .acts .idles)
+  ended-idle answer ended = subst (λ (p : Progress). Idles p (stepOf s e .stepped .worker)) ended (act .acts .tells .idles)
 
   -- a worker whose turn goes on is busy after it
-  pub goes-busy : Continues e → stepOf s e .stepped .worker ≡ idle → ⊥
-  goes-busy goes is = not-both _ (subst (λ (p : Progress). Idles p (stepOf s e .stepped .worker)) goes (act .acts .idles)) (rw is is-idle)
+  pub goes-busy : Continues (acted e) → stepOf s e .stepped .worker ≡ idle → ⊥
+  goes-busy goes is = not-both _ (subst (λ (p : Progress). Idles p (stepOf s e .stepped .worker)) goes (act .acts .tells .idles)) (rw is is-idle)
 
   -- its bucket is that of its lot
   pub was-home : e .report .bucket ≡ home (s .floor .buckets) (e .was)

@@ -23,10 +23,10 @@ use Rattle.engine.proofs.Sizes.{right-listed}
 use Rattle.engine.proofs.Keeps.{turn-accepted}
 use Rattle.engine.proofs.Reports.{done-tells}
 use Rattle.engine.proofs.Cut.{bucket-within, other-bucket}
-use Rattle.history.specs.Trace.{Entry}
+use Rattle.history.specs.Trace.{Turn, acted}
 use Rattle.history.specs.Counts.{isChange, isCommit, isClose}
 use Rattle.history.specs.History.{State, recordOf, turnBy, turnedAs, entryOf, turnEntry}
-use Rattle.history.proofs.Counts.{commit-is, close-is, change-is}
+use Rattle.history.proofs.Counts.{commit-is, close-is, change-is, turn-bumps}
 use Rattle.history.proofs.View.{Acts, Walk, stays, acts}
 use Rattle.history.proofs.States.{view, same-walk}
 
@@ -63,7 +63,7 @@ module _ (s : State) (i : ℕ) where
   abbrev pub done : After Turned
   done = turnDone (s .floor) (s .board) w does
 
-  abbrev pub entry : Entry
+  abbrev pub entry : Turn
   entry = record { worker = i; was = w; report = reportOn (s .floor) (s .board) w does }
 
   -- where it is not refused, there is a record for each worker
@@ -72,7 +72,7 @@ module _ (s : State) (i : ℕ) where
   listed none = right-listed (s .floor) (s .board) _ (passes (wrongSizes (s .floor) (s .board) _) 0 _ none .0)
 
   -- and it is done: it acts on what demand 3 goes by
-  pub done-acts : number ≡ 0 → Acts (s .floor .buckets) (view s) entry (does .stepped .worker) (view (turnedAs s i done))
+  pub done-acts : number ≡ 0 → Acts (s .floor .buckets) (view s) (acted entry) (does .stepped .worker) (view (turnedAs s i done))
   done-acts none =
       let known = turn-accepted (s .floor) (s .board) (length (s .records)) i w none in
       let ok = known .1 in
@@ -81,22 +81,20 @@ module _ (s : State) (i : ℕ) where
       let tells = done-tells (s .floor) (s .board) w ok in
       record {
         effect = effectOf w action;
-        commits = commit-is w action (isCommit entry);
-        closes = close-is w action (turn-won-at bucket w ok) (isClose entry);
-        changes = change-is w action (isChange entry);
+        commits = commit-is w action (isCommit (acted entry));
+        closes = close-is w action (turn-won-at bucket w ok) (isClose (acted entry));
+        changes = change-is w action (isChange (acted entry));
+        bumps = commit-is w action (isCommit (acted entry)) ∙ sym (turn-bumps w action);
         within = omega (arith, listed none, known .2);
         records = refl;
         last = refl;
         bucket = refl;
         was = refl;
-        before = tells .before;
-        after = tells .after;
         here = sym (tells .after) ∙ tells .effect;
         there = mark-there (s .board) b w ok;
         moves = turn-moves bucket w ok;
-        went = turn-went bucket w ok;
         aims = turn-aims bucket w ok;
-        idles = turn-idles bucket w ok;
+        tells = record { before = tells .before; after = tells .after; went = turn-went bucket w ok; idles = turn-idles bucket w ok };
       }
 
   -- done or refused, a turn is a walk of its entries

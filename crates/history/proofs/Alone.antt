@@ -1,18 +1,18 @@
 -- A worker alone: where each of its turns uses up one of so many that its call can take, a run of so many turns leaves it idle, and so do
--- they among any other calls, as long as no other worker has a turn; where no turn of it can end its call it never ends. Assumes nothing.
+-- they among any other calls, as long as it is alone; where no turn of it can end its call it never ends. Assumes nothing.
 use Prim.Native.Nat.{ℕ, zero, suc, _+_, _≤_, _<_}
 use mathlib.Core.Bool.{Bool}
 use mathlib.Core.List.{List, [], _∷_, _++_}
-use mathlib.Core.Logic.{_⊎_, inl, inr}
+use mathlib.Core.Logic.{_⊎_, inl, inr, Dec·not-not}
 use mathlib.Core.Path.{_≡_, refl, sym, ap, subst, _∙_}
 use native.Mathlib.Decide.{ℕ-discrete}
 use native.Mathlib.Omega.{arith}
-use lib.ListN.{length, replicate, length-append, length-replicate}
+use lib.ListN.{replicate, length-replicate}
 use Rattle.mark.specs.Word.{markOf}
 use Rattle.turn.specs.declared.Worker.{Worker}
 use Rattle.turn.specs.declared.Action.{Action}
 use Rattle.turn.specs.declared.Stepped.{Stepped}
-use Rattle.turn.specs.Worker.{idle}
+use Rattle.turn.specs.Worker.{noSlot, idle}
 use Rattle.turn.specs.Bucket.{cell, markCell, valueCell}
 use Rattle.turn.specs.Places.{goesOn, ends, turn}
 use Rattle.turn.specs.Turn.{After}
@@ -21,20 +21,23 @@ use Rattle.engine.specs.declared.Floor.{Floor}
 use Rattle.engine.specs.Board.{bucketAt}
 use Rattle.engine.specs.Calls.{Ran, unbegun, recordIn, runFrom, runCall}
 use Rattle.engine.proofs.Stops.{doneBy, next-done, next-refused}
-use Rattle.history.specs.Trace.{Entry, By, Continues, Ends, Some, None}
+use Rattle.history.specs.Trace.{Turn, Retiring, Entry, acted, retired, who, By, Continues, Ends, OwnEnd, Some, None, total}
+use Rattle.history.specs.Counts.{oneIf}
+use Rattle.history.specs.InCall.{ownTurns}
 use Rattle.history.specs.Numbers.{OneOf}
 use Rattle.history.specs.History.{State, Call, recordOf, runOf, stateFrom, traceFrom}
 use Rattle.history.specs.Unbroken.{Unbroken}
 use Rattle.history.specs.Cells.{home}
-use Rattle.history.specs.HowLong.{Alone, EndsAlone, GoesOnFor, NeverEndsAlone}
+use Rattle.history.specs.HowLong.{Disturbs, Alone, EndsAlone, GoesOnFor, NeverEndsAlone}
 use Rattle.history.proofs.View.{new-record, old-record}
 use Rattle.history.proofs.States.{view}
-use Rattle.history.proofs.Steps.{Begins, Turns, stepOf, done-turns, calls-last}
+use Rattle.history.proofs.Steps.{Begins, Turns, Retires, stepOf, done-turns, calls-last}
 use Rattle.history.proofs.Account.{own-bucket, progress-is, was-home, still-home}
 use Rattle.history.proofs.Unrefused.{busy-moves, idle-stays, run-accepted}
 use Rattle.history.proofs.Unbroken.{number-is, turn-unbroken}
 use Rattle.history.proofs.Later.{none-last, some-front, some-last}
 use Rattle.history.proofs.Cuts.{none-nil}
+use Rattle.history.proofs.Counts.{one-yes, one-no, total-append}
 use Rattle.history.proofs.Numbered.{answered-ends}
 use Rattle.history.proofs.Cells.{Known, known-lasts}
 
@@ -45,6 +48,11 @@ Ticketed b = (p : ℕ) → markOf (cell b markCell) p ≡ 1 → 1 ≤ cell b (va
 -- the bucket of a worker's lot
 abbrev ownBucket : ℕ → State → List ℕ
 ownBucket i s = bucketAt (s .board) (home (s .floor .buckets) (recordOf s i))
+
+-- one entry more is a turn more, if it is the worker's own
+own-more : (i : ℕ) (past : List Entry) (e : Entry) → ownTurns i (past ++ (e ∷ [])) ≡ ownTurns i past + oneIf (ℕ-discrete (who e) i)
+unfolding total
+own-more i past e = omega (arith, total-append (λ (x : Entry). oneIf (ℕ-discrete (who x) i)) past (e ∷ []))
 
 -- what is known, by A, of a worker alone in a bucket that has had k turns of its call; Q holds if the call can end
 module _ (A : List ℕ → ℕ → Worker → Type 0) (Q : Type 0) where
@@ -59,14 +67,14 @@ module _ (A : List ℕ → ℕ → Worker → Type 0) (Q : Type 0) where
     pub steps : {b : List ℕ} {k : ℕ} {w : Worker} → Accepted b w → Ticketed b → A b k w → StepsTo k (turn b w .bucket) (turn b w .stepped)
 
   -- how its turn came out
-  data Afterwards (i k : ℕ) (t : State) (e : Entry) : Type 0 where
-    goes : Continues e → A (ownBucket i t) (k + 1) (recordOf t i) → Afterwards i k t e
-    ended : Q → Ends e → recordOf t i ≡ idle → Afterwards i k t e
+  data Afterwards (i k : ℕ) (t : State) (e : Turn) : Type 0 where
+    goes : Continues (acted e) → A (ownBucket i t) (k + 1) (recordOf t i) → Afterwards i k t e
+    ended : Q → Ends (acted e) → recordOf t i ≡ idle → Afterwards i k t e
 
   module _ (count : Goes) where
     -- ---- a turn
 
-    module _ {s t : State} {e : Entry} (act : Turns s e t) (known : Known s) (k : ℕ) (had : A (ownBucket (e .worker) s) k (recordOf s (e .worker))) where
+    module _ {s t : State} {e : Turn} (act : Turns s e t) (known : Known s) (k : ℕ) (had : A (ownBucket (e .worker) s) k (recordOf s (e .worker))) where
       abbrev x : Stepped
       x = stepOf s e .stepped
 
@@ -97,11 +105,11 @@ module _ (A : List ℕ → ℕ → Worker → Type 0) (Q : Type 0) where
     -- ---- any calls
 
     module _ (i : ℕ) where
-      -- the call can end, and has; or no turn so far has ended it, and the worker is at it
+      -- the call can end, and has; or nothing so far has ended it, and the worker is at it
       abbrev Comes : State → List Entry → Type 0
-      Comes s past = (Q × Some Ends past) ⊎ (None Ends past × A (ownBucket i s) (length past) (recordOf s i))
+      Comes s past = (Q × Some (OwnEnd i) past) ⊎ (None (OwnEnd i) past × A (ownBucket i s) (ownTurns i past) (recordOf s i))
 
-      -- as long as no other worker has had a turn
+      -- as long as the worker was alone
       record Counted (s : State) (past : List Entry) : Type 0 where
         known : Known s
         comes : Alone i past → Comes s past
@@ -110,46 +118,76 @@ module _ (A : List ℕ → ℕ → Worker → Type 0) (Q : Type 0) where
       start-comes past start (inl over) = inl over
       start-comes {s} {t} {v} past start (inr on) = inr (on .0, by (ℕ-discrete i (start .starts .who)))
         where
-          by : Dec (i ≡ start .starts .who) → A (ownBucket i t) (length past) (recordOf t i)
+          by : Dec (i ≡ start .starts .who) → A (ownBucket i t) (ownTurns i past) (recordOf t i)
           by (yes own) = absurd (count .busy (on .1) (ap (recordOf s) own ∙ start .starts .was))
           by (no other) =
               let same = old-record (view s) (view t) (start .starts .who) v (start .starts .records) i other in
               rw (start .board, start .buckets, same) (on .1)
 
-      turn-comes : {s t : State} {e : Entry} (past : List Entry) → Turns s e t → Known s → By i e → Comes s past → Comes t (past ++ (e ∷ []))
-      turn-comes {e = e} past act known own (inl over) = inl (over .0, some-front Ends past (e ∷ []) (over .1))
+      turn-comes : {s t : State} {e : Turn} (past : List Entry) → Turns s e t → Known s → By i (acted e) → Comes s past → Comes t (past ++ (acted e ∷ []))
+      turn-comes {e = e} past act known own (inl over) = inl (over .0, some-front (OwnEnd i) past (acted e ∷ []) (over .1))
       turn-comes {s} {t} {e} past act known own (inr on) =
-          by (subst (λ (j : ℕ). Afterwards j (length past) t e) own (turn-went act known (length past) (rw own (on .1))))
+          by (subst (λ (j : ℕ). Afterwards j (ownTurns i past) t e) own (turn-went act known (ownTurns i past) (rw own (on .1))))
         where
-          by : Afterwards i (length past) t e → Comes t (past ++ (e ∷ []))
-          by (goes continues had) = inr (none-last Ends past e (on .0) (λ over. over continues), rw (length-append past (e ∷ [])) had)
-          by (ended can over rests) = inl (can, some-last Ends past e over)
+          by : Afterwards i (ownTurns i past) t e → Comes t (past ++ (acted e ∷ []))
+          by (goes continues had) =
+              inr (none-last (OwnEnd i) past (acted e) (on .0) (λ over. over .1 continues), rw (own-more i past (acted e), one-yes (ℕ-discrete (e .worker) i) own) had)
+          by (ended can over rests) = inl (can, some-last (OwnEnd i) past (acted e) (own, over))
 
-      turn-counted : {s t : State} {e : Entry} (past : List Entry) → Turns s e t → Counted s past → Counted t (past ++ (e ∷ []))
+      -- the retiring of another worker that held no slot
+      retire-comes :
+          {s t : State} {r : Retiring} (past : List Entry)
+          → Retires s r t
+          → (By i (retired r) → ⊥)
+          → r .was .held ≡ noSlot
+          → Comes s past
+          → Comes t (past ++ (retired r ∷ []))
+      retire-comes {r = r} past act other free (inl over) = inl (over .0, some-front (OwnEnd i) past (retired r ∷ []) (over .1))
+      retire-comes {s} {t} {r} past act other free (inr on) =
+          let same = old-record (view s) (view t) (r .worker) idle (act .acts .records) i (λ is. other (sym is)) in
+          let had : A (ownBucket i t) (ownTurns i past + 0) (recordOf t i) =
+          rw (act .board free, act .buckets, same) (subst (λ (k : ℕ). A (ownBucket i s) k (recordOf s i)) (omega arith) (on .1)) in
+          inr (none-last (OwnEnd i) past (retired r) (on .0) (λ over. other (over .0)), rw (own-more i past (retired r), one-no (ℕ-discrete (r .worker) i) other) had)
+
+      alone-before : (past : List Entry) (e : Entry) → Alone i (past ++ (e ∷ [])) → Alone i past
+      alone-before past e alone some = alone (some-front (Disturbs i) past (e ∷ []) some)
+
+      undisturbed : (past : List Entry) (e : Entry) → Alone i (past ++ (e ∷ [])) → Disturbs i e → ⊥
+      undisturbed past e alone disturbs = alone (some-last (Disturbs i) past e disturbs)
+
+      turn-counted : {s t : State} {e : Turn} (past : List Entry) → Turns s e t → Counted s past → Counted t (past ++ (acted e ∷ []))
       turn-counted {e = e} past act old =
           record {
             known = known-lasts .turns past [] act (old .known);
             comes = λ alone.
-                turn-comes past act (old .known) (own (ℕ-discrete (e .worker) i) (λ other. alone (some-last _ past e other)))
-                (old .comes (λ some. alone (some-front _ past (e ∷ []) some)));
+                turn-comes past act (old .known) (Dec·not-not (ℕ-discrete (e .worker) i) .0 (undisturbed past (acted e) alone))
+                (old .comes (alone-before past (acted e) alone));
           }
-        where
-          own : Dec (By i e) → ((By i e → ⊥) → ⊥) → By i e
-          own (yes is) alone = is
-          own (no other) alone = absurd (alone other)
 
-      -- whatever is called, as long as no other worker has a turn
+      retire-counted : {s t : State} {r : Retiring} (past : List Entry) → Retires s r t → Counted s past → Counted t (past ++ (retired r ∷ []))
+      retire-counted {r = r} past act old =
+          record {
+            known = known-lasts .retires past [] act (old .known);
+            comes = λ alone.
+                let quiet = undisturbed past (retired r) alone in
+                retire-comes past act (λ own. quiet (inl own)) (Dec·not-not (ℕ-discrete (r .was .held) noSlot) .0 (λ some. quiet (inr some)))
+                (old .comes (alone-before past (retired r) alone));
+          }
+
+      -- whatever is called, as long as the worker is alone
       comes-then :
           (s : State) → Known s → A (ownBucket i s) 0 (recordOf s i) → (rest : List Call) → Alone i (traceFrom s rest)
           → Comes (stateFrom s rest) (traceFrom s rest)
+      unfolding total
       comes-then s known had rest =
           calls-last (λ s past ts. Counted s past)
           (record {
             begins = λ past ts start old.
                 record { known = known-lasts .begins past ts start (old .known); comes = λ alone. start-comes past start (old .comes alone) };
             turns = λ past ts act old. turn-counted past act old;
+            retires = λ past ts act old. retire-counted past act old;
           }) rest s [] []
-          (record { known = known; comes = λ alone. inr (none-nil Ends, had) }) .comes
+          (record { known = known; comes = λ alone. inr (none-nil (OwnEnd i), had) }) .comes
 
     -- ---- a run
 
@@ -214,7 +252,7 @@ module _ (A : List ℕ → ℕ → Worker → Type 0) (Q : Type 0) where
               })
 
           by :
-              {e : Entry} {y : After Ran}
+              {e : Turn} {y : After Ran}
               → Afterwards i k (stands (doneBy f i x)) e
               → (A (ownBucket i (stands (doneBy f i x))) (k + 1) (recordOf (stands (doneBy f i x)) i) → Runs m (k + 1) (doneBy f i x) y)
               → (recordOf (stands (doneBy f i x)) i ≡ idle → Idled m (doneBy f i x) y)
@@ -233,7 +271,8 @@ module _ (A : List ℕ → ℕ → Worker → Type 0) (Q : Type 0) where
 
       -- a call that can take so many turns ends within them
       module _ (most : ℕ) (fewer : (b : List ℕ) (k : ℕ) (w : Worker) → A b k w → k < most) (few : most ≤ 65535) where
-        still-fewer : (rest : List Call) → Comes i (stateFrom s rest) (traceFrom s rest) → None Ends (traceFrom s rest) → length (traceFrom s rest) < most
+        still-fewer :
+            (rest : List Call) → Comes i (stateFrom s rest) (traceFrom s rest) → None (OwnEnd i) (traceFrom s rest) → ownTurns i (traceFrom s rest) < most
         still-fewer rest (inl over) unended = absurd (unended (over .1))
         still-fewer rest (inr on) unended = fewer _ _ _ (on .1)
 
@@ -261,7 +300,7 @@ module _ (A : List ℕ → ℕ → Worker → Type 0) (Q : Type 0) where
         goes-by n (inr on) =
             record { turns = omega (arith, on .turns); stops = on .stops; busy = count .busy (on .had) }
 
-        still-none : (rest : List Call) → Comes i (stateFrom s rest) (traceFrom s rest) → None Ends (traceFrom s rest)
+        still-none : (rest : List Call) → Comes i (stateFrom s rest) (traceFrom s rest) → None (OwnEnd i) (traceFrom s rest)
         still-none rest (inl over) = absurd (never (over .0))
         still-none rest (inr on) = on .0
 

@@ -35,7 +35,7 @@ no-mark v fits = slots (λ (i : ℕ). markOf v i ≡ 0) (omega arith) (omega ari
 -- and tells of no commit and no close
 empty-tells : (v b : ℕ) → v < 2 ^ 32 → Tells v b [] v
 unfolding total version countMarks
-empty-tells v b fits = record { commits = omega arith; valid = rw (no-mark v fits 0, no-mark v fits 1, no-mark v fits 2) (omega arith) }
+empty-tells v b fits = record { bumps = omega arith; valid = rw (no-mark v fits 0, no-mark v fits 1, no-mark v fits 2) (omega arith) }
 
 module _ (o : Opening) where
   -- a worker that is at no call
@@ -91,6 +91,7 @@ module _ (o : Opening) where
         tells = tells;
         tickets = omega (arith, counts-none inserting refl);
         fits = rw (opened-is o) (omega arith);
+        behind = λ i holds. absurd (holds-none i holds);
         charge = omega (arith, counts-none (stale (o .plan .buckets) (view (opened o) .marks)) refl);
         budget = omega (arith, counts-none left refl);
       }

@@ -9,23 +9,28 @@ use native.Mathlib.Decide.{ℕ-discrete, decLe}
 use native.Mathlib.Omega.{arith}
 use borrow.Author.Tests.{leb-true}
 use Rattle.mark.specs.Word.{markOf}
+use Rattle.mark.proofs.Fields.{mark-set, mark-bump}
 use Rattle.mark.proofs.Slots.{mark-past}
 use Rattle.turn.specs.declared.Worker.{Worker}
 use Rattle.turn.specs.declared.Stepped.{Stepped}
-use Rattle.turn.specs.Worker.{insertKind, idle, ticketFits}
-use Rattle.turn.specs.Bucket.{cell, markCell}
+use Rattle.turn.specs.Worker.{insertKind, noSlot, idle, ticketFits}
+use Rattle.turn.specs.Bucket.{cell, markCell, keyCell, valueCell}
+use Rattle.turn.specs.Effects.{Effect, effectOn}
+use Rattle.turn.specs.Effects as Effects
+use Rattle.turn.proofs.Retiring.{by-held, retires-holder}
 use Rattle.turn.proofs.Outcomes.{Same, Did, reads, loses, stores-value, stores-key, claims, commits, frees, closes, AtSwap, at6, at9, at13}
 use Rattle.turn.proofs.Values.{filled}
 use Rattle.turn.proofs.Stays.{StaysOn, reads-place, HeldAt, key-did, valid-did}
 use Rattle.engine.specs.Board.{bucketAt, emptyBucket, openedBoard}
-use Rattle.history.specs.Trace.{Entry}
+use Rattle.history.specs.Trace.{Turn, Retiring, acted, retired}
 use Rattle.history.specs.History.{State, Opening, Call, opened, recordOf, state}
 use Rattle.history.specs.Values.{valueAt}
 use Rattle.history.specs.Cells.{cellsAt, markAt, keyAt, home, Holds, Fills, Stands, Cells}
-use Rattle.history.proofs.View.{each-worker}
+use Rattle.history.proofs.View.{retired-word, each-worker}
 use Rattle.history.proofs.States.{view}
+use Rattle.history.proofs.Lawful.{retired-mark, spared}
 use Rattle.history.proofs.Held.{Apart, Kept, own-sure, act-kept, start-kept}
-use Rattle.history.proofs.Steps.{Begins, Turns, stepOf, Lasts, calls-last}
+use Rattle.history.proofs.Steps.{Begins, Turns, Retires, stepOf, Lasts, calls-last}
 use Rattle.history.proofs.Account.{other-cells, turn-account, was-home, still-on, still-home}
 use Rattle.history.proofs.Written.{turn-spares}
 use Rattle.history.proofs.Opened.{opened-is, opened-or-none}
@@ -92,7 +97,7 @@ pub record Known (s : State) : Type 0 where
   pub kept : Kept (s .floor .buckets) (view s)
   pub cells : Cells s
 
-module _ {s t : State} {e : Entry} (act : Turns s e t) (old : Known s) where
+module _ {s t : State} {e : Turn} (act : Turns s e t) (old : Known s) where
   abbrev n : ℕ
   n = s .floor .buckets
 
@@ -113,7 +118,7 @@ module _ {s t : State} {e : Entry} (act : Turns s e t) (old : Known s) where
   filled-was = rw (act .acts .was) (old .cells .filled i)
 
   sure-was : Holds w → markAt s (e .report .bucket) (w .held) ≡ 2
-  sure-was = rw (act .acts .was) (λ holds. own-sure n (view s) e _ (view t) (old .kept) (act .acts) holds .board)
+  sure-was = rw (act .acts .was) (λ holds. own-sure n (view s) (acted e) _ (view t) (old .kept) (act .acts) holds .board)
 
   apart-was : (j : ℕ) → (j ≡ i → ⊥) → Apart n (recordOf s j) w
   apart-was j other = rw (act .acts .was) (old .kept .apart j i other)
@@ -202,7 +207,7 @@ module _ {s t : State} {e : Entry} (act : Turns s e t) (old : Known s) where
   turn-known : Known t
   turn-known =
       record {
-        kept = rw (act .buckets) (act-kept n (view s) e _ (view t) (old .kept) (act .acts));
+        kept = rw (act .buckets) (act-kept n (view s) (acted e) _ (view t) (old .kept) (act .acts));
         cells =
             record {
               filled =
@@ -236,9 +241,87 @@ start-known {s} {t} {v} start old =
           };
     }
 
--- every accepted start and every turn done keeps what is known of slots
+-- ---- a retiring
+
+module _ {s t : State} {r : Retiring} (act : Retires s r t) where
+  abbrev stood : ℕ
+  stood = view s .marks (r .bucket)
+
+  -- the mark word that is left: as it stood where no slot was held, and else with the held slot given back
+  pub by-word-left :
+      (P : ℕ → Type 0)
+      → (r .was .held ≡ noSlot → P stood)
+      → ((r .was .held ≡ noSlot → ⊥) → r .was .held ≤ 2 → P (effectOn (Effects.retire (r .was .held)) stood))
+      → P (view t .marks (r .bucket))
+  by-word-left P free given =
+      rw (retired-word (act .acts))
+      (by-held (λ (e : Effect). P (effectOn e stood)) (r .was) free (λ some. given some (retires-holder _ (r .was) (act .ok) some .1)))
+
+  -- a mark that is not 0 after a retiring was there before
+  pub retire-marks : (b p mark : ℕ) → (mark ≡ 0 → ⊥) → markAt t b p ≡ mark → markAt s b p ≡ mark
+  retire-marks b p mark some is = by (ℕ-discrete b (r .bucket))
+    where
+      by : Dec (b ≡ r .bucket) → markAt s b p ≡ mark
+      by (no other) = ap (λ (m : ℕ). markOf m p) (sym (act .acts .there b other)) ∙ is
+      by (yes same) =
+          rw same
+          (by-word-left (λ (m : ℕ). markOf m p ≡ mark → markOf stood p ≡ mark) (λ free left. left)
+          (λ held few left. retired-mark (r .was .held) _ p mark few some left) (rw same at is))
+
+  -- every mark but that of a slot that was held stays
+  pub retire-spares :
+      (b p : ℕ) → ((r .was .held ≡ noSlot → ⊥) → b ≡ r .bucket → p ≡ r .was .held → ⊥) → markAt t b p ≡ markAt s b p
+  retire-spares b p apart = by (ℕ-discrete b (r .bucket))
+    where
+      by : Dec (b ≡ r .bucket) → markAt t b p ≡ markAt s b p
+      by (no other) = ap (λ (m : ℕ). markOf m p) (act .acts .there b other)
+      by (yes here) =
+          rw here
+          (by-word-left (λ (m : ℕ). markOf m p ≡ markOf stood p) (λ free. refl)
+          (λ held few. spared (Effects.retire (r .was .held)) _ p (λ same. apart held here (sym same))))
+
+  -- the slot that was held is empty
+  pub retire-empties : (r .was .held ≡ noSlot → ⊥) → markAt t (r .bucket) (r .was .held) ≡ 0
+  retire-empties held =
+      by-word-left (λ (m : ℕ). markOf m (r .was .held) ≡ 0) (λ free. absurd (held free))
+      (λ some few. mark-bump _ (r .was .held) ∙ mark-set _ (r .was .held) 0 (omega arith) (omega arith))
+
+  -- keys and values stay
+  pub retire-value : (b p : ℕ) → valueAt t b p ≡ valueAt s b p
+  retire-value b p = act .cells b (valueCell p) (omega arith)
+
+  pub retire-key : (b p : ℕ) → keyAt t b p ≡ keyAt s b p
+  retire-key b p = act .cells b (keyCell p) (omega arith)
+
+  retire-known : Known s → Known t
+  retire-known old =
+      record {
+        kept = rw (act .buckets) (act-kept (s .floor .buckets) (view s) (retired r) _ (view t) (old .kept) (act .acts));
+        cells =
+            record {
+              filled =
+                  each-worker (view s) (view t) (r .worker) idle (act .acts .records) (λ (j : ℕ) (u : Worker). Holds u → Fills (cellsAt t (home (t .floor .buckets) u)) u) (act .acts .within)
+                  (λ holds. absurd (omega (arith, holds .1)))
+                  (λ j other holds.
+                  let was = old .cells .filled j holds in
+                  record {
+                    value = λ past. rw (act .buckets) (retire-value (home (s .floor .buckets) (recordOf s j)) (recordOf s j .held) ∙ was .value past);
+                    key = λ past later. rw (act .buckets) (retire-key (home (s .floor .buckets) (recordOf s j)) (recordOf s j .held) ∙ was .key past later);
+                  });
+              valid = λ b p one.
+                  let was = old .cells .valid b p (retire-marks b p 1 (omega arith) one) in
+                  record { lot = rw (retire-key b p, act .buckets) (was .lot); ticket = rw (retire-value b p) (was .ticket) };
+            };
+      }
+
+-- every accepted start, every turn done and every retiring done keep what is known of slots
 pub known-lasts : Lasts (λ s past ts. Known s)
-known-lasts = record { begins = λ past ts start old. start-known start old; turns = λ past ts act old. turn-known act old }
+known-lasts =
+    record {
+      begins = λ past ts start old. start-known start old;
+      turns = λ past ts act old. turn-known act old;
+      retires = λ past ts act old. retire-known act old;
+    }
 
 -- ---- histories
 

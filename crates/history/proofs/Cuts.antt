@@ -5,7 +5,7 @@ use mathlib.Core.Path.{_≡_, refl, sym, ap, subst}
 use mathlib.Core.Logic.{_⊎_, inl, inr}
 use native.Mathlib.Omega.{arith}
 use Rattle.turn.specs.declared.Worker.{Worker}
-use Rattle.history.specs.Trace.{Entry, Cut, Some, None, total}
+use Rattle.history.specs.Trace.{Turn, Entry, acted, retired, IsTurn, Cut, Some, None, total}
 use Rattle.history.proofs.View.{View, Acts, Walk, stays, starts, acts}
 
 -- ---- some entry, and none
@@ -79,6 +79,26 @@ last-or-none P test (e ∷ es) = by (test e) (last-or-none P test es)
 -- another property of the same entry
 pub some-as : (P : Entry → List Entry → Type 0) (Q : Entry → Type 0) (es : List Entry) (c : Cut P es) → Q (c .entry) → Some Q es
 some-as P Q es c holds = record { older = c .older; entry = c .entry; newer = c .newer; cut = c .cut; holds = holds }
+
+-- ---- some turn
+
+-- a turn of which P holds stands somewhere in a trace
+pub record SomeTurn (P : Turn → Type 0) (es : List Entry) : Type 0 where
+  pub older : List Entry
+  pub turn : Turn
+  pub newer : List Entry
+  pub cut : es ≡ older ++ (acted turn ∷ newer)
+  pub holds : P turn
+
+-- an entry that is such a turn
+unfoldable pub some-turn : (P : Turn → Type 0) (es : List Entry) → Some (IsTurn P) es → SomeTurn P es
+some-turn P es some = by (some .entry) (some .cut) (some .holds)
+  where
+    by : (e : Entry) → es ≡ some .older ++ (e ∷ some .newer) → IsTurn P e → SomeTurn P es
+    by (acted t) cut holds = record { older = some .older; turn = t; newer = some .newer; cut = cut; holds = holds }
+    by (retired r) cut holds = absurd holds
+
+-- ---- what is counted
 
 module _ (count : Entry → ℕ) (e : Entry) (newer : List Entry) where
   within : (older : List Entry) → count e ≤ total count (older ++ (e ∷ newer))

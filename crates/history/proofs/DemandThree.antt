@@ -5,7 +5,7 @@ use mathlib.Core.Path.{ap, _∙_}
 use mathlib.Core.Logic.{_⊎_, inl, inr}
 use native.Mathlib.Nat.{mul-le-mul-left}
 use native.Mathlib.Omega.{arith}
-use Rattle.history.specs.Trace.{Entry, Wins, Loses, Swaps, Some, None, total}
+use Rattle.history.specs.Trace.{Turn, Entry, acted, Wins, Loses, Swaps, Some, None, total}
 use Rattle.history.specs.Counts.{lostSwaps, changesIn}
 use Rattle.history.specs.Moment.{AtTurn, AtMoment, HasMoment, ChangedByAnother, CommittedOrClosedByAnother}
 use Rattle.history.specs.History.{Opening, Call, opened, workersOf, state, trace, inserts, removes, mostLost}
@@ -28,13 +28,13 @@ module _ (o : Opening) (calls : List Call) where
   abbrev walk : Walk n (view (opened o)) (trace o calls) (2 * inserts o calls + removes o calls) (view (state o calls))
   walk = history-walk o calls
 
-  seen : (before : List Entry) (y : Entry) (u : View) → HasMoment before y ⊎ Still n (view (opened o)) before u y → HasMoment before y
+  seen : (before : List Entry) (y : Turn) (u : View) → HasMoment before y ⊎ Still n (view (opened o)) before u y → HasMoment before y
   seen before y u (inl has) = has
   seen before y u (inr still) = absurd (opened-unaware o (y .worker) (still .aware))
 
   the-moment-exists : (at : AtTurn (trace o calls)) → Swaps (at .turn) → HasMoment (at .before) (at .turn)
   the-moment-exists at swap =
-      let c = cut-at n (at .turn) (at .after) (at .before) walk (at .cut) in
+      let c = cut-at n (acted (at .turn)) (at .after) (at .before) walk (at .cut) in
       seen (at .before) (at .turn) (c .here) (back n (at .turn) (c .first) (swap-aware (c .act) swap) (c .act .bucket))
 
   a-swap-loses-only-if : (at : AtMoment (trace o calls)) → Loses (at .turn) → Some (ChangedByAnother (at .turn)) (at .between)
@@ -65,15 +65,15 @@ module _ (o : Opening) (calls : List Call) where
     at-moment has =
         record {
           before = has .older;
-          moment = has .entry;
+          moment = has .moment;
           between = has .newer;
           turn = at .turn;
           after = at .after;
           cut =
               at .cut
-              ∙ ap (λ (l : List Entry). l ++ (at .turn ∷ at .after)) (has .cut)
-              ∙ append-assoc (has .older) (has .entry ∷ has .newer) (at .turn ∷ at .after);
-          is = has .holds .0;
+              ∙ ap (λ (l : List Entry). l ++ (acted (at .turn) ∷ at .after)) (has .cut)
+              ∙ append-assoc (has .older) (acted (has .moment) ∷ has .newer) (acted (at .turn) ∷ at .after);
+          is = has .is;
         }
 
     -- a lost swap has a moment, and from there to the swap another worker changed that mark word

@@ -12,10 +12,10 @@ use Rattle.turn.specs.declared.Action.{Action}
 use Rattle.turn.specs.declared.Progress.the-variants.{Ended}
 use Rattle.turn.specs.Worker.{lookKind, insertKind, removeKind, idle}
 use Rattle.turn.proofs.Works.{among}
-use Rattle.history.specs.Trace.{Entry, By, None, total}
+use Rattle.history.specs.Trace.{Turn, Entry, acted, retired, By, IsTurn, Ends, None, total}
 use Rattle.history.specs.Cells.{markWordAt, markAt, keyAt}
 use Rattle.history.specs.InCall.{AtRest, ownTurns}
-use Rattle.history.specs.HowLong.{lookLeast, lookMost, removeMost, insertMost, Alone, NeverEndsAlone, HasRoom, HasLot, StartsSo, Takes}
+use Rattle.history.specs.HowLong.{lookLeast, lookMost, removeMost, insertMost, Disturbs, Alone, NeverEndsAlone, HasRoom, HasLot, StartsSo, Takes}
 use Rattle.history.specs.History.{State, Call, look, insert, remove, ticket, opened, recordOf, insertBy, stateFrom, traceFrom, state, trace}
 use Rattle.history.specs.Trials.{turnsOf, twoLots, threeLots, longestLook, shortestLook, longestRemove}
 use Rattle.history.proofs.Cuts.{none-nil}
@@ -26,20 +26,38 @@ use Rattle.history.proofs.Cells.{marked-few}
 use Rattle.history.proofs.HowLong.{how-long}
 use Rattle.history.proofs.Reached.{oneWorker, computed}
 
+-- a number that is not 0 for what is no turn of worker 0
+abbrev others : Entry → ℕ
+others (acted e) = e .worker
+others (retired r) = 1
+
 -- the floor of one worker has no other
-alone : (es : List Entry) → total (λ e. e .worker) es ≡ 0 → Alone 0 es
-alone = none-counted (λ e. By 0 e → ⊥) (λ e. e .worker) (λ e other. other)
+alone : (es : List Entry) → total others es ≡ 0 → Alone 0 es
+alone = none-counted (Disturbs 0) others counts
+  where
+    counts : (e : Entry) → Disturbs 0 e → others e ≡ 0 → ⊥
+    counts (acted e) other = other
+    counts (retired r) other = λ none. omega arith
+
+-- a turn of worker 0 that ends its call with this answer
+abbrev EndsWith : ℕ → Entry → Type 0
+EndsWith answer e = IsTurn (λ t. (t .worker ≡ 0) × (t .report .progress ≡ Ended answer)) e
+
+ends-with : (answer : ℕ) (e : Entry) → EndsWith answer e → By 0 e × Ends e
+ends-with answer (acted e) known = (known .0, answered-ends e answer (known .1))
+ends-with answer (retired r) known = absurd known
 
 -- after these turns worker 0 is at no call, since turn n, the last of them, ended one
-rested : (es : List Entry) (n answer : ℕ) → At (λ e newer. By 0 e × (e .report .progress ≡ Ended answer) × (newer ≡ [])) es n → AtRest 0 es
+rested : (es : List Entry) (n answer : ℕ) → At (λ e newer. EndsWith answer e × (newer ≡ [])) es n → AtRest 0 es
 rested es n answer at =
-    let last = cut-by-number (λ e newer. By 0 e × (e .report .progress ≡ Ended answer) × (newer ≡ [])) es n at in
+    let last = cut-by-number (λ e newer. EndsWith answer e × (newer ≡ [])) es n at in
+    let known = ends-with answer (last .entry) (last .holds .0) in
     inr (record {
       older = last .older;
       entry = last .entry;
       newer = last .newer;
       cut = last .cut;
-      holds = (last .holds .0, answered-ends (last .entry) answer (last .holds .1), subst (None (By 0)) (sym (last .holds .2)) (none-nil (By 0)));
+      holds = (known .0, known .1, subst (None (By 0)) (sym (last .holds .1)) (none-nil (By 0)));
     })
 
 -- a call of worker 0 that starts after some calls, which leave the state s with worker 0 at no call
@@ -50,7 +68,7 @@ module _ (first : List Call) (s : State) (is : state oneWorker first ≡ s) (res
     between = traceFrom s (start ∷ turnsOf 0 more ∷ [])
 
     -- and then its last turn, with this action and this answer, which leaves this mark word
-    abbrev end : Action → ℕ → ℕ → Entry
+    abbrev end : Action → ℕ → ℕ → Turn
     end action answer left =
         let found = stateFrom s (start ∷ turnsOf 0 more ∷ []) in
         record {
@@ -69,13 +87,13 @@ module _ (first : List Call) (s : State) (is : state oneWorker first ≡ s) (res
 
     takes :
         (calls : List Call) (kind turns : ℕ) (action : Action) (answer left : ℕ)
-        → traceFrom s calls ≡ between ++ (end action answer left ∷ [])
+        → traceFrom s calls ≡ between ++ (acted (end action answer left) ∷ [])
         → total (ended (end action answer left)) between ≡ 0
         → end action answer left .was .kind ≡ kind
         → ownTurns 0 between + 1 ≡ turns
-        → total (λ e. e .worker) between ≡ 0
+        → total others between ≡ 0
         → Takes oneWorker (first ++ calls) kind turns
-    takes calls kind turns action answer left cut unended of-kind number others =
+    takes calls kind turns action answer left cut unended of-kind number none =
         record {
           at =
               record {
@@ -93,7 +111,7 @@ module _ (first : List Call) (s : State) (is : state oneWorker first ≡ s) (res
           of-kind = of-kind;
           ends = answered-ends (end action answer left) answer refl;
           number = number;
-          alone = alone between others;
+          alone = alone between none;
         }
 
 -- ---- with two lots, and with three
@@ -124,7 +142,7 @@ two-is = refl
 
 two-rested : AtRest 0 (trace oneWorker twoLots)
 unfolding computed
-two-rested = rested (trace oneWorker twoLots) 22 1 (refl, refl, refl)
+two-rested = rested (trace oneWorker twoLots) 22 1 ((refl, refl), refl)
 
 three-is : state oneWorker threeLots ≡ three
 unfolding computed
@@ -132,7 +150,7 @@ three-is = refl
 
 three-rested : AtRest 0 (trace oneWorker threeLots)
 unfolding computed
-three-rested = rested (trace oneWorker threeLots) 35 1 (refl, refl, refl)
+three-rested = rested (trace oneWorker threeLots) 35 1 ((refl, refl), refl)
 
 -- ---- the figures
 

@@ -8,14 +8,15 @@ use native.Mathlib.Omega.{arith}
 use lib.ListN.{length, length-set}
 use Rattle.turn.specs.declared.Worker.{Worker}
 use Rattle.turn.specs.Effects.{Effect}
-use Rattle.history.specs.Trace.{Entry, total}
-use Rattle.history.specs.Counts.{lostSwaps, changesIn, commitsIn}
+use Rattle.history.specs.Trace.{Entry, who, bucketIn, total}
+use Rattle.history.specs.Counts.{lostSwaps, changesIn}
 use Rattle.history.proofs.Sums.{total-set, total-others}
 use Rattle.history.proofs.View.{View, worker, inserting, left, Starts, Acts, quiet-marks, Walk, stays, starts, acts}
-use Rattle.history.proofs.Lawful.{changed, committed, changed-le}
-use Rattle.history.proofs.Counts.{lossOf, changeOf, lost-quiet, onto}
+use Rattle.history.proofs.Lawful.{changed, bumped, changed-le}
+use Rattle.history.proofs.Counts.{lossOf, changeOf, bumpOf, lost-quiet, onto}
 use Rattle.history.proofs.Held.{Kept, act-kept, start-kept}
 use Rattle.history.proofs.Versions.{Tells, act-tells}
+use Rattle.history.proofs.Behind.{BehindIn, act-behind, start-behind}
 use Rattle.history.proofs.Minds.{moves-minds}
 use Rattle.history.proofs.Charges.{Pays, moves-pays, stale, stale-le, not-stale, stale-same, quiet-pays, change-fresh}
 
@@ -24,9 +25,11 @@ pub record Good (workers n version : ℕ) (s : View) (past : List Entry) (k : �
   pub listed : length (s .records) ≡ workers
   pub kept : Kept n s
   pub tells : (b : ℕ) → b < n → Tells version b past (s .marks b)
-  -- §3.6: the commits and the inserts under way are together no more than the last ticket, which is below 2^32
-  pub tickets : commitsIn past + total inserting (s .records) ≤ s .last
+  -- §3.6: what moved a version and the inserts under way are together no more than the last ticket, which is below 2^32
+  pub tickets : total bumpOf past + total inserting (s .records) ≤ s .last
   pub fits : s .last < 2 ^ 32
+  -- the word of a slot's holder is behind the board's by no more than versions were moved
+  pub behind : (i : ℕ) → BehindIn n past (s .marks) (worker s i)
   -- a change makes each of the other workers stale at most, and only a stale worker loses
   pub charge : lostSwaps past + total (stale n (s .marks)) (s .records) ≤ (workers - 1) * changesIn past
   -- a change is one that the call's start has paid for
@@ -37,21 +40,21 @@ module _ (workers n version : ℕ) where
       (s : View) (e : Entry) (v : Worker) (t : View) (act : Acts n s e v t)
       (past : List Entry) (k : ℕ) (good : Good workers n version s past k) where
     abbrev w : Worker
-    w = worker s (e .worker)
+    w = worker s (who e)
 
     abbrev effect : Effect
     effect = act .effect
 
-    -- what the turn pays comes from what the worker's record counted for
+    -- what is paid comes from what the worker's record counted for
     spends : (f : Worker → ℕ) (c : ℕ) → c + f v ≤ f w → c + total f (t .records) ≤ total f (s .records)
     spends f c pays =
-        let more = total-set f f c 0 v (λ w. omega arith) (s .records) (e .worker) (act .within) (omega (arith, pays)) in
+        let more = total-set f f c 0 v (λ w. omega arith) (s .records) (who e) (act .within) (omega (arith, pays)) in
         rw (act .records) (omega (arith, more))
 
     pays : Pays w effect v
-    pays = moves-pays w effect v (s .marks (e .report .bucket)) (act .moves)
+    pays = moves-pays w effect v (s .marks (bucketIn e)) (act .moves)
 
-    -- where the turn changed nothing, and where it changed the mark word
+    -- where nothing was changed, and where the mark word was
     charged :
         Dec (changeOf e ≡ 0)
         → lostSwaps (e ∷ past) + total (stale n (t .marks)) (t .records) ≤ (workers - 1) * changesIn (e ∷ past)
@@ -62,14 +65,14 @@ module _ (workers n version : ℕ) where
           arith,
           good .charge,
           total-set (stale n (s .marks)) (stale n (t .marks)) (lossOf e) 0 v
-              (stale-same n (s .marks) (t .marks) (quiet-marks act quiet)) (s .records) (e .worker) (act .within)
+              (stale-same n (s .marks) (t .marks) (quiet-marks act quiet)) (s .records) (who e) (act .within)
               (omega (arith, quiet-pays n s e v t (good .kept) act quiet (moves-minds _ _ _ _ (act .moves)))),
         ))
     charged (no loud) =
         let one : changeOf e ≡ 1 = omega (arith, act .changes, changed-le effect) in
         let more = mul-add (workers - 1) 1 (changesIn past) in
         let long : length (s .records) ≡ workers = good .listed in
-        let some : e .worker < length (s .records) = act .within in
+        let some : who e < length (s .records) = act .within in
         rw (act .records, one)
         (omega (
           arith,
@@ -77,19 +80,20 @@ module _ (workers n version : ℕ) where
           lost-quiet e loud,
           more,
           total-others (stale n (s .marks)) (stale n (t .marks)) v (λ w. omega (arith, stale-le n (t .marks) w))
-              (change-fresh n s e v t (good .kept) act loud (moves-minds _ _ _ _ (act .moves))) (s .records) (e .worker) some,
+              (change-fresh n s e v t (good .kept) act loud (moves-minds _ _ _ _ (act .moves))) (s .records) (who e) some,
         ))
 
-    -- a turn keeps it all
+    -- a turn and a retiring keep it all
     pub act-good : Good workers n version t (e ∷ past) k
     unfolding total
     act-good =
         record {
-          listed = rw (act .records) (length-set (s .records) (e .worker) v ∙ good .listed);
+          listed = rw (act .records) (length-set (s .records) (who e) v ∙ good .listed);
           kept = act-kept n s e v t (good .kept) act;
           tells = λ b under. act-tells version n s e v t (good .kept) act past b (good .tells b under);
-          tickets = rw (act .last) (omega (arith, act .commits, good .tickets, spends inserting (committed effect) (pays .commit)));
+          tickets = rw (act .last) (omega (arith, act .bumps, good .tickets, spends inserting (bumped effect) (pays .bump)));
           fits = rw (act .last) (good .fits);
+          behind = act-behind n s e v t act past (good .behind);
           charge = charged (ℕ-discrete (changeOf e) 0);
           budget = omega (arith, act .changes, good .budget, spends left (changed effect) (pays .change));
         }
@@ -114,6 +118,7 @@ module _ (workers n version : ℕ) where
           tells = λ b under. rw (start .marks b) (good .tells b under);
           tickets = omega (arith, good .tickets, start .last, brings inserting inserting (λ w. omega arith));
           fits = start .fits (good .fits);
+          behind = start-behind n s v t past start (good .behind);
           charge = omega (arith, good .charge, still, fresh);
           budget = omega (arith, good .budget, brings left left (λ w. omega arith));
         }

@@ -1,7 +1,7 @@
 -- On an opened board a held slot has mark 2, on the board and in the word that its worker read; two workers of one bucket hold
 -- different slots; every swap aims at a slot of the mark that it found. So every effect is lawful. Assumes nothing.
 use Prim.Native.Nat.{ℕ, _≤_, _<_}
-use mathlib.Core.Path.{_≡_, refl, sym, ap, _∙_}
+use mathlib.Core.Path.{_≡_, refl, sym, ap, subst, _∙_}
 use mathlib.Core.Logic.{_⊎_, inl, inr}
 use native.Mathlib.Decide.{ℕ-discrete}
 use native.Mathlib.Omega.{arith}
@@ -11,9 +11,9 @@ use Rattle.mark.proofs.Fields.{mark-set}
 use Rattle.turn.specs.declared.Worker.{Worker}
 use Rattle.turn.specs.Worker.{idle}
 use Rattle.turn.specs.Effects.{Effect, none, effectOn}
-use Rattle.turn.proofs.Effects.{Aimed, SameCall, Moves, reads, goes, again, answers, claims, commits, frees, closes}
+use Rattle.turn.proofs.Effects.{Aimed, SameCall, Moves, reads, goes, again, answers, claims, commits, frees, closes, retires}
 use Rattle.engine.specs.Board.{bucketOf}
-use Rattle.history.specs.Trace.{Entry}
+use Rattle.history.specs.Trace.{Entry, who, bucketIn}
 use Rattle.history.specs.Cells.{home, Holds}
 use Rattle.history.proofs.View.{View, worker, Starts, Acts, each-worker}
 use Rattle.history.proofs.Lawful.{Lawful, Spares, spared}
@@ -51,23 +51,25 @@ module _ (m : ℕ) (w : Worker) (e : Effect) (v : Worker) where
   moves-lawful : Moves m w e v → Aimed w → (Holds w → Sure m w) → Lawful e m
   moves-lawful (reads is place call word held) aimed sure = rw is tt
   moves-lawful (goes is place call word held from) aimed sure = rw is tt
-  moves-lawful (again is call held from) aimed sure = rw is tt
+  moves-lawful (again is call word held from) aimed sure = rw is tt
   moves-lawful (answers is ends) aimed sure = rw is tt
   moves-lawful (claims is kind held slot empty call own word) aimed sure = rw is (slot, empty aimed)
   moves-lawful (commits is kind held ends) aimed sure = rw is (held, sure (kind, held) .board)
   moves-lawful (frees is kind held ends) aimed sure = rw is (held, sure (kind, held) .board)
   moves-lawful (closes is kind slot valid ends) aimed sure = rw is (slot, valid aimed)
+  moves-lawful (retires is kind held ends) aimed sure = rw is (held, sure (kind, held) .board)
 
   -- it spares a slot that has mark 2 and is not the worker's own
   moves-spares : (h : ℕ) → Moves m w e v → Aimed w → markOf m h ≡ 2 → (Holds w → w .held ≡ h → ⊥) → Spares h e
   moves-spares h (reads is place call word held) aimed two other = rw is tt
   moves-spares h (goes is place call word held from) aimed two other = rw is tt
-  moves-spares h (again is call held from) aimed two other = rw is tt
+  moves-spares h (again is call word held from) aimed two other = rw is tt
   moves-spares h (answers is ends) aimed two other = rw is tt
   moves-spares h (claims is kind held slot empty call own word) aimed two other = rw is (unlike m _ h 0 (empty aimed) two (omega arith))
   moves-spares h (commits is kind held ends) aimed two other = rw is (other (kind, held))
   moves-spares h (frees is kind held ends) aimed two other = rw is (other (kind, held))
   moves-spares h (closes is kind slot valid ends) aimed two other = rw is (unlike m _ h 1 (valid aimed) two (omega arith))
+  moves-spares h (retires is kind held ends) aimed two other = rw is (other (kind, held))
 
   module _ (n : ℕ) where
     -- nothing happened to the mark word, and the slot is held on
@@ -96,7 +98,7 @@ module _ (m : ℕ) (w : Worker) (e : Effect) (v : Worker) where
         holds-on is call held (λ old past. rw word (old .board))
     moves-holds (goes is place call word held from) aimed =
         holds-on is call held (λ old past. rw word (old .word place))
-    moves-holds (again is call held from) aimed = holds-on is call held (λ old past. absurd (omega arith))
+    moves-holds (again is call word held from) aimed = holds-on is call held (λ old past. absurd (omega arith))
     moves-holds (answers is ends) aimed = λ sure holds. idle-free ends holds
     moves-holds (claims is kind held slot empty call own word) aimed = λ sure holds.
         let two = mark-set m (w .slot) 2 (omega arith) (omega arith) in
@@ -108,6 +110,7 @@ module _ (m : ℕ) (w : Worker) (e : Effect) (v : Worker) where
     moves-holds (commits is kind held ends) aimed = λ sure holds. idle-free ends holds
     moves-holds (frees is kind held ends) aimed = λ sure holds. idle-free ends holds
     moves-holds (closes is kind slot valid ends) aimed = λ sure holds. idle-free ends holds
+    moves-holds (retires is kind held ends) aimed = λ sure holds. idle-free ends holds
 
 -- ---- one record more or less
 
@@ -137,23 +140,23 @@ module _ (n : ℕ) (s t : View) (i : ℕ) (v : Worker) (within : i < length (s .
         apart = apart-set apart (kept .apart);
       }
 
--- ---- a turn keeps it all, and so does a start
+-- ---- a turn and a retiring keep it all, and so does a start
 
 module _ (n : ℕ) (s : View) (e : Entry) (v : Worker) (t : View) (kept : Kept n s) (act : Acts n s e v t) where
   abbrev i : ℕ
-  i = e .worker
+  i = who e
 
   abbrev effect : Effect
   effect = act .effect
 
   abbrev m : ℕ
-  m = s .marks (e .report .bucket)
+  m = s .marks (bucketIn e)
 
   -- a slot that the worker held has mark 2, on the board and in its word
   pub own-sure : Holds (worker s i) → Sure m (worker s i)
-  own-sure holds = rw (act .bucket) (kept .sure i holds)
+  own-sure holds = subst (λ (b : ℕ). Sure (s .marks b) (worker s i)) (sym (act .bucket)) (kept .sure i holds)
 
-  -- the effect of a turn is lawful
+  -- the effect is lawful
   pub act-lawful : Lawful effect m
   act-lawful = moves-lawful m (worker s i) effect v (act .moves) (kept .aimed i) own-sure
 
@@ -168,10 +171,10 @@ module _ (n : ℕ) (s : View) (e : Entry) (v : Worker) (t : View) (kept : Kept n
     slot = worker s j .held
 
     -- the mark of a slot that another worker holds, in this bucket and elsewhere
-    others-mark : Dec (home n (worker s j) ≡ e .report .bucket) → markOf (t .marks (home n (worker s j))) slot ≡ 2
+    others-mark : Dec (home n (worker s j) ≡ bucketIn e) → markOf (t .marks (home n (worker s j))) slot ≡ 2
     others-mark (no elsewhere) = rw (act .there _ elsewhere) (kept .sure j holds .board)
     others-mark (yes here) =
-        let two : markOf m slot ≡ 2 = rw (← here) (kept .sure j holds .board) in
+        let two : markOf m slot ≡ 2 = subst (λ (b : ℕ). markOf (s .marks b) slot ≡ 2) here (kept .sure j holds .board) in
         let apart : Holds (worker s i) → worker s i .held ≡ slot → ⊥ =
         λ own same. kept .apart j i other holds own (here ∙ act .bucket) (sym same) in
         let spares = moves-spares m (worker s i) effect v slot (act .moves) (kept .aimed i) two apart in
@@ -187,13 +190,13 @@ module _ (n : ℕ) (s : View) (e : Entry) (v : Worker) (t : View) (kept : Kept n
         homes = sym (mine own .home-same) ∙ same
 
         two : markOf m slot ≡ 2
-        two = rw (act .bucket, homes) (kept .sure j holds .board)
+        two = subst (λ (b : ℕ). markOf (s .marks b) slot ≡ 2) (sym (act .bucket ∙ homes)) (kept .sure j holds .board)
 
         by : (Holds (worker s i) × (v .held ≡ worker s i .held)) ⊎ (markOf m (v .held) ≡ 0) → ⊥
         by (inl old) = kept .apart i j (λ is. other (sym is)) (old .0) holds homes (sym (old .1) ∙ equal)
         by (inr empty) = unlike m (v .held) slot 0 empty two (omega arith) equal
 
-  -- a turn keeps it all
+  -- a turn and a retiring keep it all
   pub act-kept : Kept n t
   act-kept =
       kept-set n s t i v (act .within) (act .records) kept (act .aims (kept .aimed i)) mine-sure

@@ -8,6 +8,7 @@ pub mod Unrefused
 pub mod Lots
 pub mod AllOrders
 pub mod SameSizes
+pub mod Retirings
 pub mod HowLong
 pub mod Figures
 pub mod Reached
@@ -23,11 +24,13 @@ pub mod View
 pub mod States
 pub mod Starting
 pub mod Acting
+pub mod Retiring
 pub mod Walking
 -- what holds along every walk
 pub mod Good
 pub mod Held
 pub mod Versions
+pub mod Behind
 pub mod Charges
 pub mod Beginning
 -- a worker's word, and its moment

@@ -1,5 +1,5 @@
--- What a start, a turn and a run leave in a history is what the library promises to leave of the lent board and the lent list. An opening is
--- the same function there and here. Assumes nothing.
+-- What a start, a turn, a retiring and a run leave in a history is what the library promises to leave of the lent board and the lent list. An
+-- opening is the same function there and here. Assumes nothing.
 use Prim.Native.Nat.{ℕ}
 use mathlib.Core.List.{List, [], _∷_, nil≢cons, head-eq-of-cons-eq}
 use mathlib.Core.Path.{_≡_, refl, ap, subst, _∙_}
@@ -10,11 +10,11 @@ use Rattle.turn.specs.Turn as Turn
 use Rattle.engine.specs.declared.Seat.{Seat}
 use Rattle.engine.specs.declared.Started.{Started}
 use Rattle.floor.specs.Told.{reportTold, turnTold, runTold}
-use Rattle.floor.specs.Calls.{onList, startIn, turnIn, runIn}
-use Rattle.history.specs.Trace.{Entry}
+use Rattle.floor.specs.Calls.{onList, startIn, turnIn, retireIn, runIn}
+use Rattle.history.specs.Trace.{Turn, Entry, acted, IsTurn}
 use Rattle.history.specs.Counts.{countsOf}
 use Rattle.history.specs.Reports.{lastReport, InNumbers, OnlyAction}
-use Rattle.history.specs.History.{State, turn, run, recordOf, seatOf, turnBy, runOf, startedAs, after, entryOf, turnEntry, entries}
+use Rattle.history.specs.History.{State, turn, retire, run, recordOf, seatOf, turnBy, retireBy, runOf, startedAs, after, entryOf, turnEntry, entries}
 use Rattle.history.proofs.Runs.{run-totals, run-last}
 
 module _ (s : State) (i : ℕ) where
@@ -31,6 +31,12 @@ module _ (s : State) (i : ℕ) where
       turnIn (s .board) (s .records) (s .floor) i
       ≡ Turn.after (after s (turn i) .board) (onList (after s (turn i) .records) (turnTold (turnBy s i .handed .answer)))
   library-turn = refl
+
+  -- a retiring
+  pub library-retire :
+      retireIn (s .board) (s .records) (s .floor) i
+      ≡ Turn.after (after s (retire i) .board) (onList (after s (retire i) .records) (retireBy s i .handed .refusal))
+  library-retire = refl
 
 module _ (s : State) (turns : List ℕ) where
   -- a run: its totals and its last report are told from its entries
@@ -58,15 +64,15 @@ told-numbers r =
 
 -- what C is told of a turn that is done is what its entry reports
 pub library-reports :
-    (s : State) (i : ℕ) (e : Entry)
-    → turnEntry s i ≡ e ∷ []
+    (s : State) (i : ℕ) (e : Turn)
+    → turnEntry s i ≡ acted e ∷ []
     → InNumbers (e .report) (turnIn (s .board) (s .records) (s .floor) i .handed .answer .report)
 library-reports s i e = by (turnBy s i .handed .answer)
   where
-    by : (a : Answer) → entryOf s i a ≡ e ∷ [] → InNumbers (e .report) (turnTold a .report)
+    by : (a : Answer) → entryOf s i a ≡ acted e ∷ [] → InNumbers (e .report) (turnTold a .report)
     by (Refused number) is = absurd (nil≢cons is)
     by (Done report) is =
-        subst (λ (x : Entry). InNumbers (x .report) (reportTold report)) (head-eq-of-cons-eq is) (told-numbers report)
+        subst (λ (x : Entry). IsTurn (λ t. InNumbers (t .report) (reportTold report)) x) (head-eq-of-cons-eq is) (told-numbers report)
 
 -- what C is told of a turn that is refused has no action, and nothing else
 pub library-refused :

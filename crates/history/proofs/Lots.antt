@@ -1,5 +1,5 @@
 -- On an opened board a count tells the commits less the closes. The mark word of each bucket tells those of that bucket (Versions), every
--- turn is done in one of the buckets, and so they add up as a count adds up the buckets. Assumes nothing.
+-- entry is in one of the buckets, and so they add up as a count adds up the buckets. Assumes nothing.
 use Prim.Native.Nat.{ℕ, zero, suc, _+_, _-_, _≤_, _<_}
 use mathlib.Core.List.{List, [], _∷_}
 use mathlib.Core.Path.{_≡_, refl, ap, _∙_}
@@ -10,7 +10,7 @@ use Rattle.engine.specs.declared.Counted.the-variants.{Lots}
 use Rattle.engine.specs.Board.{lotsOn}
 use Rattle.engine.specs.Calls.{countCall}
 use Rattle.floor.specs.Told.{countTold}
-use Rattle.history.specs.Trace.{Entry, total}
+use Rattle.history.specs.Trace.{Entry, who, bucketIn, total}
 use Rattle.history.specs.Counts.{commitsIn, closesIn}
 use Rattle.history.specs.History.{State, Opening, Call, state, trace}
 use Rattle.history.specs.Lots.{CountTells}
@@ -34,16 +34,16 @@ module _ (count : Entry → ℕ) where
   inFirst (suc n) e = inFirst n e + inBucket n count e
 
   -- an entry of a later bucket does not count
-  out-of-first : (n : ℕ) (e : Entry) → n ≤ e .report .bucket → inFirst n e ≡ 0
+  out-of-first : (n : ℕ) (e : Entry) → n ≤ bucketIn e → inFirst n e ≡ 0
   out-of-first zero e past = refl
   out-of-first (suc n) e past = omega (arith, out-of-first n e (omega arith), out-of-bucket n count e (omega arith))
 
   -- an entry of one of the first n buckets counts once
-  in-first : (n : ℕ) (e : Entry) → e .report .bucket < n → inFirst n e ≡ count e
+  in-first : (n : ℕ) (e : Entry) → bucketIn e < n → inFirst n e ≡ count e
   in-first zero e within = absurd (omega arith)
-  in-first (suc n) e within = by (ℕ-discrete (e .report .bucket) n) (in-first n e)
+  in-first (suc n) e within = by (ℕ-discrete (bucketIn e) n) (in-first n e)
     where
-      by : Dec (e .report .bucket ≡ n) → (e .report .bucket < n → inFirst n e ≡ count e) → inFirst n e + inBucket n count e ≡ count e
+      by : Dec (bucketIn e ≡ n) → (bucketIn e < n → inFirst n e ≡ count e) → inFirst n e + inBucket n count e ≡ count e
       by (yes is) earlier = omega (arith, out-of-first n e (omega (arith, is)), in-bucket n count e is)
       by (no other) earlier = omega (arith, earlier (omega arith), out-of-bucket n count e other)
 
@@ -59,13 +59,13 @@ module _ (count : Entry → ℕ) where
   first-next n [] = refl
   first-next n (e ∷ es) = omega (arith, first-next n es)
 
-  -- on a board of n buckets every turn is done in one of them
+  -- on a board of n buckets every entry is in one of them
   first-all : {n : ℕ} {s t : View} {es : List Entry} {k : ℕ} → 0 < n → Walk n s es k t → total (inFirst n) es ≡ total count es
   unfolding total
   first-all some stays = refl
   first-all some (starts start rest) = first-all some rest
   first-all {n} some (acts {s = s} {e = e} act rest) =
-      let within : e .report .bucket < n = omega (arith, act .bucket, mod-lt (worker s (e .worker) .key) some) in
+      let within : bucketIn e < n = omega (arith, act .bucket, mod-lt (worker s (who e) .key) some) in
       omega (arith, in-first n e within, first-all some rest)
 
 -- ---- the lots of the first buckets

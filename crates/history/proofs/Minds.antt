@@ -6,8 +6,8 @@ use native.Mathlib.Omega.{arith}
 use Rattle.turn.specs.declared.Worker.{Worker}
 use Rattle.turn.specs.Worker.{idle}
 use Rattle.turn.specs.Effects.{Effect, none, effectOn}
-use Rattle.turn.proofs.Effects.{SameCall, Moves, reads, goes, again, answers, claims, commits, frees, closes, Swapper, expects, expects-word}
-use Rattle.history.specs.Trace.{Entry}
+use Rattle.turn.proofs.Effects.{SameCall, Moves, reads, goes, again, answers, claims, commits, frees, closes, retires, Swapper, expects, expects-word}
+use Rattle.history.specs.Trace.{Entry, who}
 use Rattle.history.proofs.View.{View, worker, Aware, Acts}
 use Rattle.history.proofs.Lawful.{changed}
 use Rattle.history.proofs.Held.{Kept, own-sure}
@@ -30,12 +30,13 @@ module _ (m : ℕ) (w : Worker) (e : Effect) (v : Worker) where
   pub moves-minds : Moves m w e v → Minds m w e v
   moves-minds (reads is place call word held) = renews (inl place) (call .key) (rw is word)
   moves-minds (goes is place call word held from) = keeps is call word place from
-  moves-minds (again is call held from) = forgets (λ aware. omega (arith, aware .from))
+  moves-minds (again is call word held from) = forgets (λ aware. omega (arith, aware .from))
   moves-minds (answers is ends) = forgets (idle-unaware v ends)
   moves-minds (claims is kind held slot empty call own word) = renews (inr (rw is)) (call .key) (rw is word)
   moves-minds (commits is kind held ends) = forgets (idle-unaware v ends)
   moves-minds (frees is kind held ends) = forgets (idle-unaware v ends)
   moves-minds (closes is kind slot valid ends) = forgets (idle-unaware v ends)
+  moves-minds (retires is kind held ends) = forgets (idle-unaware v ends)
 
 -- ---- the word that a swap expects
 
@@ -44,7 +45,7 @@ pub act-expects :
     (n : ℕ) (s : View) (e : Entry) (v : Worker) (t : View)
     → Kept n s
     → Acts n s e v t
-    → Swapper (worker s (e .worker))
-    → expects (worker s (e .worker)) ≡ worker s (e .worker) .word
+    → Swapper (worker s (who e))
+    → expects (worker s (who e)) ≡ worker s (who e) .word
 act-expects n s e v t kept act swapper =
-    expects-word (worker s (e .worker)) swapper (λ kind held. own-sure n s e v t kept act (kind, held) .word (swapper .from))
+    expects-word (worker s (who e)) swapper (λ kind held. own-sure n s e v t kept act (kind, held) .word (swapper .from))

@@ -1,31 +1,57 @@
 -- How many turns of its call a worker has had, told from the trace. Assumes nothing.
 use Prim.Native.Nat.{ℕ, _+_}
 use mathlib.Core.List.{List, [], _∷_, _++_}
-use mathlib.Core.Logic.{inl, inr}
+use mathlib.Core.Logic.{_⊎_, inl, inr}
 use mathlib.Core.Path.{_≡_, refl, ap, _∙_}
 use native.Mathlib.Decide.{ℕ-discrete}
 use native.Mathlib.Omega.{arith}
 use Rattle.turn.specs.declared.Progress.{Progress}
 use Rattle.turn.specs.declared.Progress.the-variants.{GoesOn, Ended}
-use Rattle.history.specs.Trace.{Entry, By, Continues, Ends, None, total}
+use Rattle.history.specs.Trace.{Turn, Entry, acted, retired, who, By, Continues, Ends, OwnEnd, None, total}
 use Rattle.history.specs.Counts.{oneIf}
 use Rattle.history.specs.InCall.{AtRest, InCall, ownTurns, numberInCall}
 use Rattle.history.proofs.Cuts.{some-here, some-later, some-as}
 
--- with a turn more: one more of its call, none where it ended the call, as many where it is another worker's
-abbrev pub nextTo : {A : Type 0} → ℕ → Dec A → Progress → ℕ
-nextTo k (no other) progress = k
-nextTo k (yes own) GoesOn = k + 1
-nextTo k (yes own) (Ended answer) = 0
+-- with a turn more: one more of its call, none where it ended the call
+abbrev goesTo : ℕ → Progress → ℕ
+goesTo k GoesOn = k + 1
+goesTo k (Ended answer) = 0
+
+-- with an entry more, as many where it is another worker's; who is retired has had none
+abbrev pub nextTo : {A : Type 0} → ℕ → Dec A → Entry → ℕ
+nextTo k (no other) e = k
+nextTo k (yes own) (acted e) = goesTo k (e .report .progress)
+nextTo k (yes own) (retired r) = 0
 
 -- a turn with an answer has ended its call
-pub answered-ends : (e : Entry) (answer : ℕ) → e .report .progress ≡ Ended answer → Ends e
+pub answered-ends : (e : Turn) (answer : ℕ) → e .report .progress ≡ Ended answer → Ends (acted e)
 answered-ends e answer is goes = let z : _≡_ {A = ℕ} 0 1 = cc in omega arith
+
+-- an entry by which its worker's call goes on, or is over
+pub goes-or-ends : (e : Entry) → Continues e ⊎ Ends e
+goes-or-ends (acted e) = by (e .report .progress) refl
+  where
+    by : (p : Progress) → e .report .progress ≡ p → Continues (acted e) ⊎ Ends (acted e)
+    by GoesOn goes = inl goes
+    by (Ended answer) ended = inr (answered-ends e answer ended)
+goes-or-ends (retired r) = inr (λ goes. goes)
+
+goes-next : (k : ℕ) (e : Entry) {A : Type 0} (own : A) → Continues e → nextTo k (yes own) e ≡ k + 1
+goes-next k (acted e) own goes = rw goes
+goes-next k (retired r) own goes = absurd goes
+
+ends-next : (k : ℕ) (e : Entry) {A : Type 0} (own : A) → Ends e → nextTo k (yes own) e ≡ 0
+ends-next k (acted e) own ends = by (e .report .progress) refl
+  where
+    by : (p : Progress) → e .report .progress ≡ p → goesTo k p ≡ 0
+    by GoesOn goes = absurd (ends goes)
+    by (Ended answer) ended = refl
+ends-next k (retired r) own ends = refl
 
 module _ (i : ℕ) where
   -- the turns of worker i's call, with this entry more
   abbrev pub oneMore : ℕ → Entry → ℕ
-  oneMore k e = nextTo k (ℕ-discrete (e .worker) i) (e .report .progress)
+  oneMore k e = nextTo k (ℕ-discrete (who e) i) e
 
   -- the turns of worker i since it last ended a call, where it has had k of them before
   unfoldable pub hadFrom : ℕ → List Entry → ℕ
@@ -40,41 +66,40 @@ module _ (i : ℕ) where
 
   -- ---- a trace that is cut into a call
 
-  -- a turn by which worker i ends its call leaves it no turn of one
+  -- what ends worker i's call leaves it no turn of one
   pub ended-now : (k : ℕ) (e : Entry) → By i e → Ends e → oneMore k e ≡ 0
-  ended-now k e own ends = by (ℕ-discrete (e .worker) i) (e .report .progress) refl
+  ended-now k e own ends = by (ℕ-discrete (who e) i)
     where
-      by : (d : Dec (By i e)) (p : Progress) → e .report .progress ≡ p → nextTo k d p ≡ 0
-      by (no other) p is = absurd (other own)
-      by (yes is) GoesOn goes = absurd (ends goes)
-      by (yes is) (Ended answer) ended = refl
+      by : (d : Dec (By i e)) → nextTo k d e ≡ 0
+      by (no other) = absurd (other own)
+      by (yes is) = ends-next k e is ends
 
   -- a turn of worker i by which its call goes on is one more
   pub goes-now : (k : ℕ) (e : Entry) → By i e → Continues e → oneMore k e ≡ k + 1
-  goes-now k e own goes = by (ℕ-discrete (e .worker) i)
+  goes-now k e own goes = by (ℕ-discrete (who e) i)
     where
-      by : (d : Dec (By i e)) → nextTo k d (e .report .progress) ≡ k + 1
+      by : (d : Dec (By i e)) → nextTo k d e ≡ k + 1
       by (no other) = absurd (other own)
-      by (yes is) = rw goes
+      by (yes is) = goes-next k e is goes
 
-  -- another worker's turn leaves worker i as many
+  -- what is another worker's leaves worker i as many
   pub others-now : (k : ℕ) (e : Entry) → (By i e → ⊥) → oneMore k e ≡ k
-  others-now k e other = by (ℕ-discrete (e .worker) i)
+  others-now k e other = by (ℕ-discrete (who e) i)
     where
-      by : (d : Dec (By i e)) → nextTo k d (e .report .progress) ≡ k
+      by : (d : Dec (By i e)) → nextTo k d e ≡ k
       by (no isnot) = refl
       by (yes own) = absurd (other own)
 
-  unended-now : (k : ℕ) (e : Entry) → (By i e × Ends e → ⊥) → oneMore k e ≡ k + oneIf (ℕ-discrete (e .worker) i)
-  unended-now k e on = by (ℕ-discrete (e .worker) i) (e .report .progress) refl
+  unended-now : (k : ℕ) (e : Entry) → (OwnEnd i e → ⊥) → oneMore k e ≡ k + oneIf (ℕ-discrete (who e) i)
+  unended-now k e on = by (ℕ-discrete (who e) i) (goes-or-ends e)
     where
-      by : (d : Dec (By i e)) (p : Progress) → e .report .progress ≡ p → nextTo k d p ≡ k + oneIf d
-      by (no other) p is = omega arith
-      by (yes own) GoesOn goes = refl
-      by (yes own) (Ended answer) is = absurd (on (own, answered-ends e answer is))
+      by : (d : Dec (By i e)) → Continues e ⊎ Ends e → nextTo k d e ≡ k + oneIf d
+      by (no other) how = omega arith
+      by (yes own) (inl goes) = goes-next k e own goes
+      by (yes own) (inr ends) = absurd (on (own, ends))
 
   -- where no turn of worker i ends its call, its turns are that many more
-  had-more : (k : ℕ) (es : List Entry) → None (λ e. By i e × Ends e) es → hadFrom k es ≡ k + ownTurns i es
+  had-more : (k : ℕ) (es : List Entry) → None (OwnEnd i) es → hadFrom k es ≡ k + ownTurns i es
   unfolding hadFrom total
   had-more k [] none = omega arith
   had-more k (e ∷ es) none =
@@ -84,7 +109,7 @@ module _ (i : ℕ) where
   none-own : (es : List Entry) → None (By i) es → ownTurns i es ≡ 0
   unfolding total
   none-own [] none = refl
-  none-own (e ∷ es) none = omega (arith, none-own es (λ some. none (some-later _ e es some)), by (ℕ-discrete (e .worker) i))
+  none-own (e ∷ es) none = omega (arith, none-own es (λ some. none (some-later _ e es some)), by (ℕ-discrete (who e) i))
     where
       by : (d : Dec (By i e)) → oneIf d ≡ 0
       by (yes own) = absurd (none (some-here _ e es own))

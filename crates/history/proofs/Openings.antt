@@ -26,6 +26,7 @@ use Rattle.history.proofs.SameSizes.{state-workers, state-buckets}
 use Rattle.history.proofs.NoValueComesBack.{no-value-comes-back}
 use Rattle.history.proofs.Lots.{count-tells}
 use Rattle.history.proofs.HowLong.{how-long}
+use Rattle.history.proofs.Retirings.{retirings}
 use Rattle.history.proofs.Cells.{state-cells}
 use Rattle.history.proofs.Unbroken.{state-unbroken}
 
@@ -95,6 +96,7 @@ any-order o asked =
       counted = count-tells (h .opening) (h .calls);
       reports = reports-chain (h .opening) (h .calls);
       lasting = how-long (h .opening) (h .calls);
+      retires = retirings (h .opening) (h .calls);
       cells = subst Cells (sym (all .stands)) (state-cells (h .opening) (h .calls));
       unbroken = subst Unbroken (sym (all .stands)) (state-unbroken (h .opening) (h .calls));
     }

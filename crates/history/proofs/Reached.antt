@@ -1,13 +1,13 @@
--- Histories reach every kind of turn that demand 3 speaks of, also between a turn and its moment: trials P6 and P11 do, computed turn by
--- turn. Assumes nothing.
+-- Histories reach every kind of entry that demand 3 speaks of, also between a turn and its moment: trials P6 and P11 and a container that is
+-- retired do, computed turn by turn. Assumes nothing.
 use Prim.Native.Nat.{ℕ}
 use mathlib.Core.Bool.{false}
 use mathlib.Core.List.{List, [], map}
-use mathlib.Core.Logic.{inl, Dec·and}
+use mathlib.Core.Logic.{inl, Dec·and, Dec·not}
 use mathlib.Core.Path.{_≡_, refl}
 use native.Mathlib.Decide.{ℕ-discrete}
 use native.Mathlib.Omega.{arith}
-use lib.ListN.{length, replicate}
+use lib.ListN.{length, take, replicate}
 use Rattle.mark.specs.Word as Word
 use Rattle.turn.specs.declared.Action.{Action}
 use Rattle.turn.specs.declared.Action.the-variants.{Read, Won, Lost}
@@ -17,21 +17,22 @@ use Rattle.turn.specs.declared.Report.{Report}
 use Rattle.turn.specs.Worker as Record
 use Rattle.turn.specs.Bucket as Bucket
 use Rattle.turn.specs.Places as Places
-use Rattle.turn.specs.Turn as Turn
+use Rattle.turn.specs.Turn as Turned
+use Rattle.turn.specs.Retire as Retire
 use Rattle.engine.specs.Board as Board
 use Rattle.engine.specs.Refusals as Refusals
 use Rattle.engine.specs.Refusals.{openNumber}
 use Rattle.engine.specs.Calls as Calls
 use Rattle.engine.specs.Calls.{planned, blank}
-use Rattle.history.specs.Trace.{Entry, Loses, Claims, Commits, Closes, Frees, ReadsWhole, Cut, Some, total}
+use Rattle.history.specs.Trace.{Turn, Entry, acted, retired, who, Loses, Claims, Commits, Closes, Frees, ReadsWhole, IsTurn, Changes, Cut, Some, total}
 use Rattle.history.specs.Counts.{lostSwaps, changesIn}
 use Rattle.history.specs.History.{Opening, Call, recordOf, state, trace, turnEntries, stateFrom, traceFrom, sumFrom, inserts, removes}
 use Rattle.history.specs.Moment.{AnothersIn, HasMoment}
 use Rattle.history.specs.Reports.{MadeLose}
 use Rattle.history.specs.Cells.{markWordAt}
-use Rattle.history.specs.Trials.{A, planFor, sleeper, sleeperWords, wordRepeats, repeatedWord, refusedStarts}
-use Rattle.history.proofs.Cuts.{cut-later, none-nil}
-use Rattle.history.proofs.Found.{cut-by-number, found, moment-found}
+use Rattle.history.specs.Trials.{A, planFor, sleeper, sleeperWords, wordRepeats, repeatedWord, refusedStarts, retiredHolder, claimedAgain}
+use Rattle.history.proofs.Cuts.{cut-later, none-nil, SomeTurn, some-turn}
+use Rattle.history.proofs.Found.{cut-by-number, found, found-turn, moment-found}
 
 -- ---- the floors
 
@@ -71,47 +72,53 @@ repeatedTrace = trace threeWorkers repeatedWord
 -- all that these traces are computed by: what unfolds this unfolds it
 unfoldable pub computed : Unit {0}
 unfolding
-    ℕ-discrete Dec·and oneWorker twoWorkers threeWorkers stateFrom traceFrom sumFrom turnEntries total cut-later cut-by-number found moment-found
-    Calls.openCall Calls.startCall Calls.turned Calls.turnCall Calls.runFrom Calls.runCall
+    ℕ-discrete Dec·and Dec·not oneWorker twoWorkers threeWorkers stateFrom traceFrom sumFrom turnEntries total cut-later cut-by-number some-turn found found-turn moment-found
+    Calls.openCall Calls.startCall Calls.turned Calls.turnCall Calls.retired Calls.retireCall Calls.runFrom Calls.runCall
     Refusals.wrongFloor Refusals.wrongSizes
-    Refusals.openNumber Refusals.startNumber Refusals.eachNumber Refusals.turnNumber Refusals.runNumber
-    Turn.turnRefusal Record.broken Record.isIdle Record.sound Record.fits Record.mayStand Record.ticketFits Record.heldFits Record.wordFits
+    Refusals.openNumber Refusals.startNumber Refusals.eachNumber Refusals.turnNumber Refusals.retireNumber Refusals.runNumber
+    Turned.turnRefusal Retire.retireRefusal Record.broken Record.isIdle Record.sound Record.fits Record.mayStand Record.ticketFits Record.heldFits Record.wordFits
     Bucket.brokenBucket Places.turn Places.lookFound Places.lookEmpty Places.findSlot Places.nextSlot Places.nextKey
     Places.after1 Places.after2 Places.after3 Places.after4 Places.after5 Places.after11 Places.after12
     Board.openedBoard Word.version Word.markOf Word.byte7 Word.setMark Word.bump Word.firstEmpty Word.wellFormed
 computed = tt
 
--- ---- every kind of turn
+-- ---- every kind of entry
 
--- a history has a turn of which P holds
+-- a history has an entry of which P holds
 pub record Reached (P : Entry → Type 0) : Type 0 where
   pub opening : Opening
   pub calls : List Call
   pub some : Some P (trace opening calls)
 
--- lost swaps, claims, commits, closes, and slots given back
-pub record EveryKind : Type 0 where
-  pub lost : Reached Loses
-  pub claimed : Reached Claims
-  pub committed : Reached Commits
-  pub closed : Reached Closes
-  pub freed : Reached Frees
+-- a retiring that gives a slot back
+abbrev Vacates : Entry → Type 0
+Vacates e = (IsTurn (λ t. Unit {0}) e → ⊥) × Changes e
 
--- histories have each of them: the sleeper has the first four, and P11 the last
+-- lost swaps, claims, commits, closes, slots given back by their insert, and one given back by a retiring
+pub record EveryKind : Type 0 where
+  pub lost : Reached (IsTurn Loses)
+  pub claimed : Reached (IsTurn Claims)
+  pub committed : Reached (IsTurn Commits)
+  pub closed : Reached (IsTurn Closes)
+  pub freed : Reached (IsTurn Frees)
+  pub vacated : Reached Vacates
+
+-- histories have each of them: the sleeper has the first four, P11 the fifth, and a container that is retired the last
 pub every-kind-reached : EveryKind
 unfolding computed
 every-kind-reached =
     record {
-      lost = record { opening = twoWorkers; calls = sleeper; some = found Loses sleeperTrace 29 refl };
-      claimed = record { opening = twoWorkers; calls = sleeper; some = found Claims sleeperTrace 7 (refl, refl) };
-      committed = record { opening = twoWorkers; calls = sleeper; some = found Commits sleeperTrace 10 (refl, refl) };
-      closed = record { opening = twoWorkers; calls = sleeper; some = found Closes sleeperTrace 17 (refl, refl) };
-      freed = record { opening = threeWorkers; calls = repeatedWord; some = found Frees repeatedTrace 37 (refl, refl) };
+      lost = record { opening = twoWorkers; calls = sleeper; some = found (IsTurn Loses) sleeperTrace 29 refl };
+      claimed = record { opening = twoWorkers; calls = sleeper; some = found (IsTurn Claims) sleeperTrace 7 (refl, refl) };
+      committed = record { opening = twoWorkers; calls = sleeper; some = found (IsTurn Commits) sleeperTrace 10 (refl, refl) };
+      closed = record { opening = twoWorkers; calls = sleeper; some = found (IsTurn Closes) sleeperTrace 17 (refl, refl) };
+      freed = record { opening = threeWorkers; calls = repeatedWord; some = found (IsTurn Frees) repeatedTrace 37 (refl, refl) };
+      vacated = record { opening = twoWorkers; calls = retiredHolder; some = found Vacates (trace twoWorkers retiredHolder) 10 ((λ turn. turn), λ none. omega arith) };
     }
 
 -- ---- how many
 
--- a history of so many turns, changes, lost swaps, accepted inserts and accepted removes
+-- a history of so many entries, changes, lost swaps, accepted inserts and accepted removes
 pub record Totals (o : Opening) (calls : List Call) (turns changed lost inserted removed : ℕ) : Type 0 where
   pub turns-are : length (trace o calls) ≡ turns
   pub changes-are : changesIn (trace o calls) ≡ changed
@@ -144,69 +151,74 @@ report action progress found left =
 -- a lost swap at turn 30 of P6, its moment at turn 12, a close and a commit by another worker in between, and turn 29, which made it lose; with
 -- the reports of these turns
 pub record Sleeps : Type 0 where
-  pub lost : Some Loses sleeperTrace
+  pub lost : SomeTurn Loses sleeperTrace
   pub turn-30 : length (lost .older) ≡ 29
-  pub moment : HasMoment (lost .older) (lost .entry)
+  pub moment : HasMoment (lost .older) (lost .turn)
   pub turn-12 : length (moment .older) ≡ 11
-  pub closed : Some (λ e. AnothersIn (lost .entry) e × Closes e) (moment .newer)
-  pub committed : Some (λ e. AnothersIn (lost .entry) e × Commits e) (moment .newer)
+  pub closed : Some (λ e. AnothersIn (lost .turn) e × IsTurn Closes e) (moment .newer)
+  pub committed : Some (λ e. AnothersIn (lost .turn) e × IsTurn Commits e) (moment .newer)
   -- the swap's report, and in it the word that it found: version 2, mark 1
-  pub report-30 : lost .entry .report ≡ report Lost GoesOn 4294967298 4294967298
+  pub report-30 : lost .turn .report ≡ report Lost GoesOn 4294967298 4294967298
   -- at its moment its worker had left another one there: version 1, mark 1
-  pub report-12 : moment .entry .report ≡ report Read GoesOn 4294967297 4294967297
+  pub report-12 : moment .moment .report ≡ report Read GoesOn 4294967297 4294967297
   -- the word that it found was left by turn 29, which made it lose: worker 0's commit of ticket 2
-  pub made-lose : Cut (MadeLose (lost .entry)) (lost .older)
+  pub made-lose : Cut (MadeLose (lost .turn)) (lost .older)
   pub turn-29 : length (made-lose .older) ≡ 28
-  pub whose : made-lose .entry .worker ≡ 0
-  pub report-29 : made-lose .entry .report ≡ report Won (Ended 1) 8589934593 4294967298
+  pub whose : who (made-lose .entry) ≡ 0
+  pub report-29 : IsTurn (λ t. t .report ≡ report Won (Ended 1) 8589934593 4294967298) (made-lose .entry)
 
 -- the sleeper loses the swap that it fell asleep before, since the lot was closed and opened again after its moment
 pub sleeper-sleeps : Sleeps
 unfolding computed
 sleeper-sleeps =
-    let s : Some Loses sleeperTrace = found Loses sleeperTrace 29 refl in
-    let m : HasMoment (s .older) (s .entry) =
-    moment-found (s .entry) (s .older) 11 (record { own = refl; sees = inl refl; latest = refl; bucket = refl; first = refl; rest = refl }) in
+    let s : SomeTurn Loses sleeperTrace = found-turn Loses sleeperTrace 29 refl in
+    let m : HasMoment (s .older) (s .turn) =
+    moment-found (s .turn) (s .older) 11 (record { own = refl; sees = inl refl; latest = refl; bucket = refl; first = refl; rest = refl }) in
     record {
       lost = s;
       turn-30 = refl;
       moment = m;
       turn-12 = refl;
-      closed = found (λ e. AnothersIn (s .entry) e × Closes e) (m .newer) 5 (((λ e. omega arith), refl), (refl, refl));
-      committed = found (λ e. AnothersIn (s .entry) e × Commits e) (m .newer) 16 (((λ e. omega arith), refl), (refl, refl));
+      closed = found (λ e. AnothersIn (s .turn) e × IsTurn Closes e) (m .newer) 5 (((λ e. omega arith), refl), (refl, refl));
+      committed = found (λ e. AnothersIn (s .turn) e × IsTurn Commits e) (m .newer) 16 (((λ e. omega arith), refl), (refl, refl));
       report-30 = refl;
       report-12 = refl;
       made-lose =
-          cut-by-number (MadeLose (s .entry)) (s .older) 28
+          cut-by-number (MadeLose (s .turn)) (s .older) 28
           (record { another = (((λ e. omega arith), refl), inl refl); differs = omega arith; left = refl; latest = none-nil _ });
       turn-29 = refl;
       whose = refl;
       report-29 = refl;
     }
 
+-- the words that a turn reports
+abbrev wordsOf : Entry → ℕ × ℕ
+wordsOf (acted e) = (e .report .before, e .report .after)
+wordsOf (retired r) = (0, 0)
+
 -- the words that each of the sleeper's turns reports
-pub sleeper-words : map (λ (e : Entry). (e .report .before, e .report .after)) sleeperTrace ≡ sleeperWords
+pub sleeper-words : map wordsOf sleeperTrace ≡ sleeperWords
 unfolding computed
 sleeper-words = refl
 
 -- A's last turn of P11, the mark word before it and the one that A read, and a slot freed and one claimed by others since its moment
 pub record Repeats : Type 0 where
-  pub won : Some Claims repeatedTrace
-  pub by : won .entry .worker ≡ A
+  pub won : SomeTurn Claims repeatedTrace
+  pub by : won .turn .worker ≡ A
   pub before : won .older ≡ trace threeWorkers wordRepeats
   -- version 1; marks 2, 1, 0
   pub read : recordOf (state threeWorkers wordRepeats) A .word ≡ 1108101562369
   pub again : markWordAt (state threeWorkers wordRepeats) 0 ≡ 1108101562369
-  pub moment : HasMoment (won .older) (won .entry)
-  pub reading : ReadsWhole (moment .entry)
-  pub freed : Some (λ e. AnothersIn (won .entry) e × Frees e) (moment .newer)
-  pub claimed : Some (λ e. AnothersIn (won .entry) e × Claims e) (moment .newer)
+  pub moment : HasMoment (won .older) (won .turn)
+  pub reading : ReadsWhole (moment .moment)
+  pub freed : Some (λ e. AnothersIn (won .turn) e × IsTurn Frees e) (moment .newer)
+  pub claimed : Some (λ e. AnothersIn (won .turn) e × IsTurn Claims e) (moment .newer)
 
 -- §10.11: before A swaps, the mark word is the one that it has read, although others changed it in between; and the swap is won
 pub word-repeats : Repeats
 unfolding computed
 word-repeats =
-    let y : Entry =
+    let y : Turn =
     record {
       worker = A;
       was = recordOf (state threeWorkers wordRepeats) A;
@@ -216,13 +228,33 @@ word-repeats =
     moment-found y (trace threeWorkers wordRepeats) 29
     (record { own = refl; sees = inl refl; latest = refl; bucket = refl; first = refl; rest = refl }) in
     record {
-      won = record { older = trace threeWorkers wordRepeats; entry = y; newer = []; cut = refl; holds = (refl, refl) };
+      won = record { older = trace threeWorkers wordRepeats; turn = y; newer = []; cut = refl; holds = (refl, refl) };
       by = refl;
       before = refl;
       read = refl;
       again = refl;
       moment = m;
       reading = refl;
-      freed = found (λ e. AnothersIn y e × Frees e) (m .newer) 7 (((λ e. omega arith), refl), (refl, refl));
-      claimed = found (λ e. AnothersIn y e × Claims e) (m .newer) 16 (((λ e. omega arith), refl), (refl, refl));
+      freed = found (λ e. AnothersIn y e × IsTurn Frees e) (m .newer) 7 (((λ e. omega arith), refl), (refl, refl));
+      claimed = found (λ e. AnothersIn y e × IsTurn Claims e) (m .newer) 16 (((λ e. omega arith), refl), (refl, refl));
     }
+
+-- ---- a container that does not come back
+
+-- worker 0 claims a slot and is retired, and worker 1 claims that slot again
+pub record ClaimedAgain : Type 0 where
+  -- what worker 0's commit would have expected: version 0, mark 2
+  pub expected : Places.filled (recordOf (state twoWorkers (take 2 retiredHolder)) 0) ≡ 8589934592
+  -- that word stands there when worker 0 is retired
+  pub before : markWordAt (state twoWorkers (take 2 retiredHolder)) 0 ≡ 8589934592
+  -- the retiring leaves version 1 and no mark
+  pub left : markWordAt (state twoWorkers retiredHolder) 0 ≡ 1
+  -- and then the same slot is claimed: version 1, mark 2
+  pub again : markWordAt (state twoWorkers claimedAgain) 0 ≡ 8589934593
+  -- by worker 1, which has had its eight turns
+  pub held : recordOf (state twoWorkers claimedAgain) 1 .held ≡ 0
+
+-- §19.5: the same slot is claimed again, and the word is another
+pub claimed-again : ClaimedAgain
+unfolding computed
+claimed-again = record { expected = refl; before = refl; left = refl; again = refl; held = refl }

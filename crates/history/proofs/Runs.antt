@@ -1,6 +1,6 @@
 -- A run is its turns, called one by one, as many as it reports as done; what it counts is what they did, and its last report the last one's.
 -- Assumes nothing.
-use Prim.Native.Nat.{ℕ, _+_}
+use Prim.Native.Nat.{ℕ, _+_, _≤_}
 use mathlib.Core.Bool.{Bool, true, false, cond}
 use mathlib.Core.List.{List, [], _∷_, _++_, map}
 use mathlib.Core.Path.{_≡_, refl, sym, ap, ap₂, _∙_}
@@ -19,9 +19,9 @@ use Rattle.engine.specs.Calls.{Ran, tallied, noTurns, standing, unbegun, goOn, 
 use Rattle.engine.proofs.Stops.{run-turn-is-turn}
 use Rattle.engine.proofs.Keeps.{turn-keeps}
 use Rattle.engine.proofs.Tallies.{losses-lost, losses-other, changes-change, changes-other}
-use Rattle.history.specs.Trace.{Entry, total}
+use Rattle.history.specs.Trace.{Turn, Entry, acted, retired, total}
 use Rattle.history.specs.Reports.{lastReport}
-use Rattle.history.specs.Counts.{isLost, isChange, lostSwaps, changesIn, fullRounds, countsOf}
+use Rattle.history.specs.Counts.{isLost, isChange, turnsIn, lostSwaps, changesIn, fullRounds, countsOf}
 use Rattle.history.specs.History.{State, Opening, Call, turn, run, opened, seatOf, recordOf, turnBy, runOf, turnedAs, ranAs, after}
 use Rattle.history.specs.History.{entryOf, andThen, turnEntries, entries, stateFrom, traceFrom, state, trace}
 use Rattle.history.proofs.Counts.{one-is}
@@ -32,16 +32,19 @@ use Rattle.history.proofs.Histories.{stateFrom-append, traceFrom-append
 -- the totals with these entries more
 abbrev counted : Totals → List Entry → Totals
 counted t [] = t
-counted t (e ∷ es) = counted (tallied (e .was .place) (e .report) t) es
+counted t (acted e ∷ es) = counted (tallied (e .was .place) (e .report) t) es
+counted t (retired r ∷ es) = counted t es
 
 -- the floor, the board and the list of records fit together
 abbrev RightSizes : State → Type 0
 RightSizes s = wrongSizes (s .floor) (s .board) (length (s .records)) ≡ false
 
--- turns from s, with these totals and this report before them, came to x with these entries: as many are done as there are entries
+-- turns from s, with these totals and this report before them, came to x with these entries, which are turns: as many are done as there are
+-- entries
 record Follows (s : State) (turns : List ℕ) (t : Totals) (r : Report) (x : After Ran) (es : List Entry) : Type 0 where
   left : ranAs s x ≡ stateFrom s (map turn (take (length es) turns))
   did : es ≡ traceFrom s (map turn (take (length es) turns))
+  turns-all : turnsIn es ≡ length es
   totals : x .handed .totals ≡ counted t es
   last : x .handed .last ≡ lastReport r es
 
@@ -49,8 +52,8 @@ record Follows (s : State) (turns : List ℕ) (t : Totals) (r : Report) (x : Aft
 none-follow :
     (s : State) (turns : List ℕ) (t : Totals) (r : Report) (number : ℕ)
     → Follows s turns t r (standing (s .board) (s .records) t r number) []
-unfolding stateFrom traceFrom lastReport
-none-follow s turns t r number = record { left = refl; did = refl; totals = refl; last = refl }
+unfolding stateFrom traceFrom lastReport total
+none-follow s turns t r number = record { left = refl; did = refl; turns-all = refl; totals = refl; last = refl }
 
 -- a turn keeps the sizes
 still-right : (s : State) (i : ℕ) → RightSizes s → RightSizes (turnedAs s i (turnBy s i))
@@ -76,7 +79,7 @@ module _ (s : State) (i : ℕ) (turns : List ℕ) where
 
   -- it is done, and the others come after it
   first-done : (board : List ℕ) (w : Worker) (r : Report) → First (Turn.after board (record { worker = w; answer = Done r }))
-  unfolding stateFrom traceFrom lastReport
+  unfolding stateFrom traceFrom lastReport total
   first-done board w r is others t last =
       let rest = others (tallied (recordOf s i .place) r t) r in
       let next : State = turnedAs s i (Turn.after board (record { worker = w; answer = Done r })) in
@@ -86,6 +89,7 @@ module _ (s : State) (i : ℕ) (turns : List ℕ) where
         did =
             ap (λ (es : List Entry). entryOf s i (Done r) ++ es) (rest .did)
             ∙ ap (λ x. entryOf s i (x .handed .answer) ++ traceFrom (turnedAs s i x) done) (sym is);
+        turns-all = omega (arith, rest .turns-all);
         totals = rest .totals;
         last = rest .last;
       }
@@ -128,26 +132,31 @@ module _ (s : State) (turns : List ℕ) where
 
 -- ---- what it counts
 
--- a count that goes up by an entry's number with each entry
-module _ (count : Totals → ℕ) (f : Entry → ℕ) (adds : (e : Entry) (t : Totals) → count (tallied (e .was .place) (e .report) t) ≡ count t + f e) where
-  counted-adds : (t : Totals) (es : List Entry) → count (counted t es) ≡ count t + total f es
+-- no more entries are turns than there are
+turns-le : (es : List Entry) → turnsIn es ≤ length es
+unfolding total
+turns-le [] = omega arith
+turns-le (acted e ∷ es) = omega (arith, turns-le es)
+turns-le (retired r ∷ es) = omega (arith, turns-le es)
+
+-- a count that goes up by a turn's number with each turn, of entries that are all turns
+module _
+    (count : Totals → ℕ) (f : Entry → ℕ)
+    (adds : (e : Turn) (t : Totals) → count (tallied (e .was .place) (e .report) t) ≡ count t + f (acted e)) where
+  counted-adds : (t : Totals) (es : List Entry) → turnsIn es ≡ length es → count (counted t es) ≡ count t + total f es
   unfolding total
-  counted-adds t [] = omega arith
-  counted-adds t (e ∷ es) = omega (arith, adds e t, counted-adds (tallied (e .was .place) (e .report) t) es)
+  counted-adds t [] all = omega arith
+  counted-adds t (acted e ∷ es) all = omega (arith, adds e t, counted-adds (tallied (e .was .place) (e .report) t) es (omega arith))
+  counted-adds t (retired r ∷ es) all = absurd (omega (arith, turns-le es))
 
   run-count : count noTurns ≡ 0 → (s : State) (turns : List ℕ) → count (runOf s turns .handed .totals) ≡ total f (entries s (run turns))
   run-count none s turns =
-      ap count (run-follows s turns .totals) ∙ omega (arith, counted-adds noTurns (entries s (run turns)), none)
-
-total-ones : (es : List Entry) → total (λ e. 1) es ≡ length es
-unfolding total
-total-ones [] = refl
-total-ones (e ∷ es) = omega (arith, total-ones es)
+      ap count (run-follows s turns .totals) ∙ omega (arith, counted-adds noTurns (entries s (run turns)) (run-follows s turns .turns-all), none)
 
 -- totals are the counts of a trace, one by one
 pub same-totals :
     (t : Totals) (es : List Entry)
-    → t .turns ≡ length es
+    → t .turns ≡ turnsIn es
     → t .changes ≡ changesIn es
     → t .lost ≡ lostSwaps es
     → t .full ≡ fullRounds es
@@ -155,21 +164,24 @@ pub same-totals :
 same-totals t es turns changes lost full = λ i. record { turns = turns i; changes = changes i; lost = lost i; full = full i }
 
 module _ (s : State) (turns : List ℕ) where
+  run-had : runOf s turns .handed .totals .turns ≡ turnsIn (entries s (run turns))
+  run-had = run-count (λ t. t .turns) _ (λ e t. refl) refl s turns
+
   -- the turns that a run reports are its entries
   pub run-turns : runOf s turns .handed .totals .turns ≡ length (entries s (run turns))
-  run-turns = run-count (λ t. t .turns) (λ e. 1) (λ e t. refl) refl s turns ∙ total-ones (entries s (run turns))
+  run-turns = run-had ∙ run-follows s turns .turns-all
 
   -- the lost swaps that it reports are theirs
   pub run-lost : runOf s turns .handed .totals .lost ≡ lostSwaps (entries s (run turns))
   run-lost =
       run-count (λ t. t .lost) _
-      (λ e t. ap (λ (n : ℕ). t .lost + n) (one-is (isLost e) _ (losses-lost _) (losses-other _))) refl s turns
+      (λ e t. ap (λ (n : ℕ). t .lost + n) (one-is (isLost (acted e)) _ (losses-lost _) (losses-other _))) refl s turns
 
   -- and so are the changes
   pub run-changes : runOf s turns .handed .totals .changes ≡ changesIn (entries s (run turns))
   run-changes =
       run-count (λ t. t .changes) _
-      (λ e t. ap (λ (n : ℕ). t .changes + n) (one-is (isChange e) _ (changes-change _ _) (changes-other _ _))) refl s turns
+      (λ e t. ap (λ (n : ℕ). t .changes + n) (one-is (isChange (acted e)) _ (changes-change _ _) (changes-other _ _))) refl s turns
 
   -- and the reports of a full round
   pub run-full : runOf s turns .handed .totals .full ≡ fullRounds (entries s (run turns))
@@ -177,7 +189,7 @@ module _ (s : State) (turns : List ℕ) where
 
   -- so the totals that a run reports are the counts of its entries
   pub run-totals : runOf s turns .handed .totals ≡ countsOf (entries s (run turns))
-  run-totals = same-totals _ (entries s (run turns)) run-turns run-changes run-lost run-full
+  run-totals = same-totals _ (entries s (run turns)) run-had run-changes run-lost run-full
 
   -- the report that a run keeps is that of its last entry
   pub run-last : runOf s turns .handed .last ≡ lastReport noReport (entries s (run turns))

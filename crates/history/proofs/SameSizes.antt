@@ -11,7 +11,7 @@ use Rattle.engine.specs.declared.Floor.{Floor}
 use Rattle.engine.specs.declared.Started.{Started}
 use Rattle.engine.specs.Refusals.{startNumber}
 use Rattle.engine.specs.Calls.{planned, spending, startCall}
-use Rattle.history.specs.History.{State, Opening, Call, look, insert, remove, turn, run, show, count, orders, opened, recordOf, seatOf}
+use Rattle.history.specs.History.{State, Opening, Call, look, insert, remove, turn, retire, run, show, count, orders, opened, recordOf, seatOf}
 use Rattle.history.specs.History.{after, stateFrom, state}
 use Rattle.history.proofs.Opened.{opened-is}
 
@@ -31,6 +31,7 @@ module _ (size : Floor → ℕ) (other : (f : Floor) (t : ℕ) → size (spendin
   call-size s (insert i lot t) = start-size s i _ _ _ (other (s .floor) (t .number))
   call-size s (remove i lot) = start-size s i _ _ _ refl
   call-size s (turn i) = refl
+  call-size s (retire i) = refl
   call-size s (run turns) = refl
   call-size s (show lot) = refl
   call-size s count = refl

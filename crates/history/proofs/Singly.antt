@@ -4,7 +4,7 @@ use mathlib.Core.List.{List, [], _∷_, _++_, map, append-nil}
 use mathlib.Core.Path.{_≡_, refl, sym, ap, ap₂, _∙_}
 use lib.ListN.{take}
 use Rattle.history.specs.Trace.{Entry}
-use Rattle.history.specs.History.{State, Opening, Call, look, insert, remove, turn, run, show, count, orders, opened, runOf, after}
+use Rattle.history.specs.History.{State, Opening, Call, look, insert, remove, turn, retire, run, show, count, orders, opened, runOf, after}
 use Rattle.history.specs.History.{entries, stateFrom, traceFrom, state, trace}
 use Rattle.history.specs.Singly.{single, singlyFrom, singly, NoRuns}
 use Rattle.history.proofs.Histories.{stateFrom-append, traceFrom-append}
@@ -28,6 +28,7 @@ comes s (look i lot) = record { to-state = refl; to-trace = refl; no-run = tt }
 comes s (insert i lot t) = record { to-state = refl; to-trace = refl; no-run = tt }
 comes s (remove i lot) = record { to-state = refl; to-trace = refl; no-run = tt }
 comes s (turn i) = record { to-state = refl; to-trace = append-nil _; no-run = tt }
+comes s (retire i) = record { to-state = refl; to-trace = append-nil _; no-run = tt }
 comes s (run turns) =
     record {
       to-state = sym (run-state s turns);
@@ -46,6 +47,7 @@ no-runs-append (look i lot ∷ cs) ds none more = no-runs-append cs ds none more
 no-runs-append (insert i lot t ∷ cs) ds none more = no-runs-append cs ds none more
 no-runs-append (remove i lot ∷ cs) ds none more = no-runs-append cs ds none more
 no-runs-append (turn i ∷ cs) ds none more = no-runs-append cs ds none more
+no-runs-append (retire i ∷ cs) ds none more = no-runs-append cs ds none more
 no-runs-append (run turns ∷ cs) ds none more = none
 no-runs-append (show lot ∷ cs) ds none more = no-runs-append cs ds none more
 no-runs-append (count ∷ cs) ds none more = no-runs-append cs ds none more

@@ -7,16 +7,17 @@ use mathlib.Core.Path.{_≡_, refl, sym, subst, _∙_}
 use native.Mathlib.Omega.{arith}
 use lib.ListN.{length, set}
 use Rattle.turn.specs.declared.Worker.{Worker}
-use Rattle.turn.specs.Worker.{insertKind}
+use Rattle.turn.specs.Worker.{insertKind, idle}
 use Rattle.turn.proofs.Values.{filled}
 use Rattle.turn.proofs.Waits.{Waits, turn-insert, turn-waits}
-use Rattle.history.specs.Trace.{Entry, None}
+use Rattle.history.specs.Trace.{Turn, Retiring, Entry, acted, retired, wasOf, IsTurn, None}
 use Rattle.history.specs.History.{State, recordOf}
 use Rattle.history.specs.Numbers.{OneOf, Rising}
 use Rattle.history.specs.Values.{Stores, StoresTicket}
 use Rattle.history.proofs.View.{each-worker}
 use Rattle.history.proofs.States.{view}
-use Rattle.history.proofs.Steps.{Spends, unticketed, ticketed, Begins, Turns, stepOf, Lasts}
+use Rattle.history.proofs.Steps.{Spends, unticketed, ticketed, Begins, Turns, Retires, stepOf, Lasts}
+use Rattle.history.proofs.Cuts.{some-turn}
 use Rattle.history.proofs.Later.{CutLast, last, sooner, cut-last, none-last, in-front, in-last, in-or-last, rising-last}
 
 -- an insert under way
@@ -34,14 +35,14 @@ pub record Spent (s : State) (past : List Entry) (ts : List ℕ) : Type 0 where
   pub accepted : (i : ℕ) → Inserts (recordOf s i) → OneOf ts (recordOf s i .ticket)
   pub differ : (i j : ℕ) → (i ≡ j → ⊥) → Differ (recordOf s i) (recordOf s j)
   -- the ticket of an insert that waits was stored by no turn
-  pub waits : (i : ℕ) → Waits (recordOf s i) → None (StoresTicket (recordOf s i .ticket)) past
+  pub waits : (i : ℕ) → Waits (recordOf s i) → None (IsTurn (StoresTicket (recordOf s i .ticket))) past
   -- what a turn stored is an accepted ticket, and was stored by no turn before it
-  pub stored : (before : List Entry) (e : Entry) (later : List Entry) → past ≡ before ++ (e ∷ later) → Stores e → OneOf ts (e .was .ticket)
+  pub stored : (before : List Entry) (e : Turn) (later : List Entry) → past ≡ before ++ (acted e ∷ later) → Stores e → OneOf ts (e .was .ticket)
   pub once :
-      (before : List Entry) (e : Entry) (later : List Entry)
-      → past ≡ before ++ (e ∷ later)
+      (before : List Entry) (e : Turn) (later : List Entry)
+      → past ≡ before ++ (acted e ∷ later)
       → Stores e
-      → None (StoresTicket (e .was .ticket)) before
+      → None (IsTurn (StoresTicket (e .was .ticket))) before
 
 -- what holds of a new record beside each old one, and of each two old ones, holds of each two
 module _ (s t : State) (i : ℕ) (v : Worker) (records : t .records ≡ set (s .records) i v) (within : i < length (s .records)) where
@@ -117,9 +118,11 @@ module _ {s t : State} {v : Worker} {spent : List ℕ} (past : List Entry) (ts :
             each-differ s t i v (start .starts .records) (start .starts .within)
             (λ j other first second same. fresh first (subst (λ (n : ℕ). OneOf ts n) (sym same) (old .accepted j second))) (old .differ);
         waits =
-            every (λ (j : ℕ) (w : Worker). Waits w → None (StoresTicket (w .ticket)) past)
-            (λ waits some. fresh (waits .kind)
-            (subst (λ (n : ℕ). OneOf ts n) (some .holds .1) (old .stored (some .older) (some .entry) (some .newer) (some .cut) (some .holds .0))))
+            every (λ (j : ℕ) (w : Worker). Waits w → None (IsTurn (StoresTicket (w .ticket))) past)
+            (λ waits some.
+            let found = some-turn _ past some in
+            fresh (waits .kind)
+            (subst (λ (n : ℕ). OneOf ts n) (found .holds .1) (old .stored (found .older) (found .turn) (found .newer) (found .cut) (found .holds .0))))
             (λ j other waits. old .waits j waits);
         stored = λ before e later cut stores. grown .more _ (old .stored before e later cut stores);
         once = old .once;
@@ -127,7 +130,7 @@ module _ {s t : State} {v : Worker} {spent : List ℕ} (past : List Entry) (ts :
 
 -- ---- a turn
 
-module _ {s t : State} {e : Entry} (past : List Entry) (ts : List ℕ) (act : Turns s e t) (old : Spent s past ts) where
+module _ {s t : State} {e : Turn} (past : List Entry) (ts : List ℕ) (act : Turns s e t) (old : Spent s past ts) where
   abbrev i : ℕ
   i = e .worker
 
@@ -138,13 +141,13 @@ module _ {s t : State} {e : Entry} (past : List Entry) (ts : List ℕ) (act : Tu
   v = stepOf s e .stepped .worker
 
   abbrev now : List Entry
-  now = past ++ (e ∷ [])
+  now = past ++ (acted e ∷ [])
 
   -- what was known of the worker's record
   accepted-was : Inserts w → OneOf ts (w .ticket)
   accepted-was = rw (act .acts .was) (old .accepted i)
 
-  waits-was : Waits w → None (StoresTicket (w .ticket)) past
+  waits-was : Waits w → None (IsTurn (StoresTicket (w .ticket))) past
   waits-was = rw (act .acts .was) (old .waits i)
 
   differ-was : (j : ℕ) → (j ≡ i → ⊥) → Differ w (recordOf s j)
@@ -164,24 +167,26 @@ module _ {s t : State} {e : Entry} (past : List Entry) (ts : List ℕ) (act : Tu
   stores-waits stores = record { kind = stores-filled stores .0; early = λ some. stores .0 }
 
   -- where the insert still waits, the turn did not store, and it waited before
-  mine-waits : Waits v → None (StoresTicket (v .ticket)) now
+  mine-waits : Waits v → None (IsTurn (StoresTicket (v .ticket))) now
   mine-waits waits =
       let none = waits-was (record { kind = insert-was (waits .kind); early = λ some. absurd (turn-waits _ w (act .ok) waits some) }) in
       rw (same-ticket (waits .kind))
-      (none-last _ past e none (λ stores. turn-waits _ w (act .ok) waits (stores-filled (stores .0) .1)))
+      (none-last _ past (acted e) none (λ stores. turn-waits _ w (act .ok) waits (stores-filled (stores .0) .1)))
 
   -- another's ticket is not the one that the turn stores
-  others-wait : (j : ℕ) → (j ≡ i → ⊥) → Waits (recordOf s j) → None (StoresTicket (recordOf s j .ticket)) now
+  others-wait : (j : ℕ) → (j ≡ i → ⊥) → Waits (recordOf s j) → None (IsTurn (StoresTicket (recordOf s j .ticket))) now
   others-wait j other waits =
-      none-last _ past e (old .waits j waits) (λ stores. differ-was j other (stores-filled (stores .0) .0) (waits .kind) (stores .1))
+      none-last _ past (acted e) (old .waits j waits) (λ stores. differ-was j other (stores-filled (stores .0) .0) (waits .kind) (stores .1))
 
-  stored-then : (before : List Entry) (d : Entry) → CutLast past e before d → Stores d → OneOf ts (d .was .ticket)
+  stored-then : (before : List Entry) (d : Turn) → CutLast past (acted e) before (acted d) → Stores d → OneOf ts (d .was .ticket)
   stored-then before d (last is at) stores =
-      subst (λ (x : Entry). OneOf ts (x .was .ticket)) (sym at) (accepted-was (stores-filled (subst Stores at stores) .0))
+      subst (λ (x : Entry). OneOf ts (wasOf x .ticket)) (sym at) (accepted-was (stores-filled (subst (IsTurn Stores) at stores) .0))
   stored-then before d (sooner rest cut) stores = old .stored before d rest cut stores
 
-  once-then : (before : List Entry) (d : Entry) → CutLast past e before d → Stores d → None (StoresTicket (d .was .ticket)) before
-  once-then before d (last is at) stores = rw (is, at) (waits-was (stores-waits (subst Stores at stores)))
+  once-then : (before : List Entry) (d : Turn) → CutLast past (acted e) before (acted d) → Stores d → None (IsTurn (StoresTicket (d .was .ticket))) before
+  once-then before d (last is at) stores =
+      rw is
+      (subst (λ (x : Entry). None (IsTurn (StoresTicket (wasOf x .ticket))) past) (sym at) (waits-was (stores-waits (subst (IsTurn Stores) at stores))))
   once-then before d (sooner rest cut) stores = old .once before d rest cut stores
 
   turn-spent : Spent t now ts
@@ -196,11 +201,39 @@ module _ {s t : State} {e : Entry} (past : List Entry) (ts : List ℕ) (act : Tu
         differ =
             each-differ s t i v (act .acts .records) (act .acts .within)
             (λ j other first second same. differ-was j other (insert-was first) second (sym (same-ticket first) ∙ same)) (old .differ);
-        waits = every (λ (j : ℕ) (x : Worker). Waits x → None (StoresTicket (x .ticket)) now) mine-waits others-wait;
-        stored = λ before d later cut. stored-then before d (cut-last e d later past before cut);
-        once = λ before d later cut. once-then before d (cut-last e d later past before cut);
+        waits = every (λ (j : ℕ) (x : Worker). Waits x → None (IsTurn (StoresTicket (x .ticket))) now) mine-waits others-wait;
+        stored = λ before d later cut. stored-then before d (cut-last (acted e) (acted d) later past before cut);
+        once = λ before d later cut. once-then before d (cut-last (acted e) (acted d) later past before cut);
       }
 
--- every accepted start and every turn done keeps what is known of tickets
+-- ---- a retiring
+
+retire-spent : {s t : State} {r : Retiring} (past : List Entry) (ts : List ℕ) → Retires s r t → Spent s past ts → Spent t (past ++ (retired r ∷ [])) ts
+retire-spent {s} {t} {r} past ts act old =
+    let i = r .worker in
+    let every = each s t i idle (act .acts .records) (act .acts .within) in
+    record {
+      rising = old .rising;
+      most = rw (act .acts .last) (old .most);
+      accepted = every (λ (j : ℕ) (x : Worker). Inserts x → OneOf ts (x .ticket)) (λ insert. absurd (omega arith)) (λ j other. old .accepted j);
+      differ =
+          each-differ s t i idle (act .acts .records) (act .acts .within)
+          (λ j other first second same. omega arith) (old .differ);
+      waits =
+          every (λ (j : ℕ) (x : Worker). Waits x → None (IsTurn (StoresTicket (x .ticket))) (past ++ (retired r ∷ [])))
+          (λ waits. absurd (omega (arith, waits .kind))) (λ j other waits. none-last _ past (retired r) (old .waits j waits) (λ is. is));
+      stored = λ before d later cut. stored-then before d (cut-last (retired r) (acted d) later past before cut);
+      once = λ before d later cut. once-then before d (cut-last (retired r) (acted d) later past before cut);
+    }
+  where
+    stored-then : (before : List Entry) (d : Turn) → CutLast past (retired r) before (acted d) → Stores d → OneOf ts (d .was .ticket)
+    stored-then before d (last is at) stores = absurd (subst (IsTurn (λ t. Unit {0})) at tt)
+    stored-then before d (sooner rest cut) stores = old .stored before d rest cut stores
+
+    once-then : (before : List Entry) (d : Turn) → CutLast past (retired r) before (acted d) → Stores d → None (IsTurn (StoresTicket (d .was .ticket))) before
+    once-then before d (last is at) stores = absurd (subst (IsTurn (λ t. Unit {0})) at tt)
+    once-then before d (sooner rest cut) stores = old .once before d rest cut stores
+
+-- every accepted start, every turn done and every retiring done keep what is known of tickets
 pub spent-lasts : Lasts Spent
-spent-lasts = record { begins = start-spent; turns = turn-spent }
+spent-lasts = record { begins = start-spent; turns = turn-spent; retires = retire-spent }

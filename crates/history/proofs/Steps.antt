@@ -1,5 +1,5 @@
--- Histories step by step, over whole states: what holds of an opened board with nothing behind it, and what every accepted start and
--- every turn that is done keeps, holds after every list of calls. Assumes nothing.
+-- Histories step by step, over whole states: what holds of an opened board with nothing behind it, and what every accepted start, every turn
+-- that is done and every retiring that is done keep, holds after every list of calls. Assumes nothing.
 use Prim.Native.Nat.{ℕ, _<_}
 use mathlib.Core.Bool.{Bool, true, false, cond}
 use mathlib.Core.List.{List, [], _∷_, _++_, map, append-assoc, append-nil}
@@ -11,26 +11,33 @@ use lib.Seq.{set-getD}
 use borrow.Author.Tests.{eqb-true, leb-false}
 use Rattle.mark.proofs.Choices.{by-cases}
 use Rattle.turn.specs.declared.Worker.{Worker}
-use Rattle.turn.specs.Worker.{insertKind, lookFor, insertOf, removeOf}
+use Rattle.turn.specs.Worker.{insertKind, noSlot, idle, lookFor, insertOf, removeOf}
 use Rattle.turn.specs.Places.{Step}
 use Rattle.turn.specs.Places as Places
 use Rattle.turn.specs.Turn.{Turned, After, reportOf, refusing}
 use Rattle.turn.specs.Turn as Turn
+use Rattle.turn.specs.declared.Retired.{Retired}
+use Rattle.turn.specs.Bucket.{cell, markCell}
+use Rattle.turn.specs.Retire.{notRetired}
 use Rattle.turn.proofs.Sound.{Accepted}
+use Rattle.turn.proofs.Retiring.{Retirable}
 use Rattle.engine.specs.declared.Floor.{Floor}
 use Rattle.engine.specs.declared.Started.{Started}
 use Rattle.engine.specs.Board.{bucketAt, withBucket}
 use Rattle.engine.specs.Refusals.{spent, startNumber}
-use Rattle.engine.specs.Calls.{blank, spending, startCall, turned, turnCall}
+use Rattle.engine.specs.Calls.{blank, spending, startCall, turned, turnCall, retireCall}
+use Rattle.engine.specs.Calls as Calls
 use Rattle.engine.proofs.Keeps.{turn-accepted}
-use Rattle.history.specs.Trace.{Entry}
-use Rattle.history.specs.History.{State, Call, look, insert, remove, turn, run, show, count, orders, recordOf, seatOf, runOf}
-use Rattle.history.specs.History.{startedAs, turnedAs, after, entryOf, turnEntry, entries, stateFrom, traceFrom}
+use Rattle.engine.proofs.Retiring.{retire-accepted, vacated-nothing, vacated-cells}
+use Rattle.history.specs.Trace.{Turn, Retiring, Entry, acted, retired}
+use Rattle.history.specs.History.{State, Call, look, insert, remove, turn, retire, run, show, count, orders, recordOf, seatOf, runOf}
+use Rattle.history.specs.History.{startedAs, turnedAs, retiredAs, retireEntry, after, entryOf, turnEntry, entries, stateFrom, traceFrom}
 use Rattle.history.specs.Values.{spentBy, ticketsFrom}
 use Rattle.history.proofs.View.{Starts, Acts}
 use Rattle.history.proofs.States.{view}
 use Rattle.history.proofs.Starting.{Fresh, look-fresh, insert-fresh, remove-fresh, not-refused, accepted-starts}
 use Rattle.history.proofs.Acting.{number, done, entry, done-acts}
+use Rattle.history.proofs.Retiring as Going
 use Rattle.history.proofs.Runs.{run-state, run-trace}
 
 -- ---- a start
@@ -57,13 +64,13 @@ pub record Begins (s : State) (v : Worker) (spent : List ℕ) (t : State) : Type
 -- ---- a turn
 
 -- what a turn that is done did to the bucket and the record
-abbrev pub stepOf : State → Entry → Step
+abbrev pub stepOf : State → Turn → Step
 stepOf s e = Places.turn (bucketAt (s .board) (e .report .bucket)) (e .was)
 
 -- a turn that is done
-pub record Turns (s : State) (e : Entry) (t : State) : Type 0 where
+pub record Turns (s : State) (e : Turn) (t : State) : Type 0 where
   pub ok : Accepted (bucketAt (s .board) (e .report .bucket)) (e .was)
-  pub acts : Acts (s .floor .buckets) (view s) e (stepOf s e .stepped .worker) (view t)
+  pub acts : Acts (s .floor .buckets) (view s) (acted e) (stepOf s e .stepped .worker) (view t)
   pub report : e .report ≡ reportOf (e .report .bucket) (bucketAt (s .board) (e .report .bucket)) (stepOf s e)
   pub board : t .board ≡ withBucket (s .board) (e .report .bucket) (stepOf s e .bucket)
   pub buckets : t .floor .buckets ≡ s .floor .buckets
@@ -78,7 +85,7 @@ module _ (s : State) (i : ℕ) where
   -- what holds of a turn that is done, and of nothing done, holds of every turn
   pub by-turn :
       (Q : State → List Entry → Type 0)
-      → ((e : Entry) (t : State) → Turns s e t → Q t (e ∷ []))
+      → ((e : Turn) (t : State) → Turns s e t → Q t (acted e ∷ []))
       → Q s []
       → Q (after s (turn i)) (turnEntry s i)
   unfolding turnCall turned
@@ -86,6 +93,43 @@ module _ (s : State) (i : ℕ) where
       by-cases (λ (x : After Turned). Q (turnedAs s i x) (entryOf s i (x .handed .answer))) (eqb (number s i) 0) (done s i)
       (Turn.after (s .board) (refusing (number s i) (recordOf s i)))
       (λ is. acts (entry s i) (turnedAs s i (done s i)) (done-turns (eqb-true _ 0 is))) (λ isnot. rw (set-getD (s .records) i blank) same)
+
+-- ---- a retiring
+
+-- a retiring that is done
+pub record Retires (s : State) (r : Retiring) (t : State) : Type 0 where
+  pub ok : Retirable (bucketAt (s .board) (r .bucket)) (r .was)
+  pub acts : Acts (s .floor .buckets) (view s) (retired r) idle (view t)
+  -- no cell but a mark word is touched, and where no slot was held none at all
+  pub cells : (b k : ℕ) → (k ≡ markCell → ⊥) → cell (bucketAt (t .board) b) k ≡ cell (bucketAt (s .board) b) k
+  pub board : r .was .held ≡ noSlot → t .board ≡ s .board
+  pub buckets : t .floor .buckets ≡ s .floor .buckets
+
+module _ (s : State) (i : ℕ) where
+  -- a retiring that is not refused is done
+  pub done-retires : Going.number s i ≡ 0 → Retires s (Going.entry s i) (retiredAs s i (Going.done s i))
+  done-retires none =
+      let known = retire-accepted (s .floor) (s .board) (length (s .records)) i (recordOf s i) none in
+      record {
+        ok = known .1;
+        acts = Going.retire-acts s i none;
+        cells = vacated-cells (s .floor) (s .board) (recordOf s i) (known .0);
+        board = vacated-nothing (s .floor) (s .board) (recordOf s i);
+        buckets = refl;
+      }
+
+  -- what holds of a retiring that is done, and of nothing done, holds of every retiring
+  pub by-retiring :
+      (Q : State → List Entry → Type 0)
+      → ((r : Retiring) (t : State) → Retires s r t → Q t (retired r ∷ []))
+      → Q s []
+      → Q (after s (retire i)) (entries s (retire i))
+  unfolding retireCall Calls.retired
+  by-retiring Q acts same =
+      by-cases (λ (x : After Retired). Q (retiredAs s i x) (retireEntry s i x)) (eqb (Going.number s i) 0) (Going.done s i)
+      (Turn.after (s .board) (notRetired (Going.number s i) (recordOf s i)))
+      (λ is. acts (Going.entry s i) (retiredAs s i (Going.done s i)) (done-retires (eqb-true _ 0 is)))
+      (λ isnot. rw (isnot, set-getD (s .records) i blank) same)
 
 -- ---- what every step keeps
 
@@ -97,11 +141,12 @@ module _ (P : State → List Entry → List ℕ → Type 0) where
         → Begins s v spent t
         → P s past ts
         → P t past (ts ++ spent)
-    pub turns : {s t : State} {e : Entry} (past : List Entry) (ts : List ℕ) → Turns s e t → P s past ts → P t (past ++ (e ∷ [])) ts
+    pub turns : {s t : State} {e : Turn} (past : List Entry) (ts : List ℕ) → Turns s e t → P s past ts → P t (past ++ (acted e ∷ [])) ts
+    pub retires : {s t : State} {r : Retiring} (past : List Entry) (ts : List ℕ) → Retires s r t → P s past ts → P t (past ++ (retired r ∷ [])) ts
 
   -- every turn that is done keeps it
   abbrev pub TurnsKeep : Type 0
-  TurnsKeep = (s t : State) (e : Entry) (past : List Entry) (ts : List ℕ) → Turns s e t → P s past ts → P t (past ++ (e ∷ [])) ts
+  TurnsKeep = (s t : State) (e : Turn) (past : List Entry) (ts : List ℕ) → Turns s e t → P s past ts → P t (past ++ (acted e ∷ [])) ts
 
   module _ (keeps : TurnsKeep) where
     -- what every turn done keeps, every turn keeps, done or refused
@@ -176,12 +221,15 @@ module _ (P : State → List Entry → List ℕ → Type 0) where
         (λ early. ticketed (leb-false (t .number) (s .floor .last) early) refl refl) past ts h)
     call-lasts s (remove i lot) past ts h = rw (append-nil past) (plain-lasts s i (removeOf lot) (remove-fresh (s .floor) lot) (of-remove lot) (omega arith) past ts h)
     call-lasts s (turn i) past ts h = rw (append-nil ts) (turn-lasts kept s i past ts h)
+    call-lasts s (retire i) past ts h =
+        rw (append-nil ts)
+        (by-retiring s i (λ (t : State) (es : List Entry). P t (past ++ es) ts) (λ r t act. lasts .retires past ts act h) (rw (append-nil past) h))
     call-lasts s (run turns) past ts h = rw (append-nil ts) (run-lasts kept s turns past ts h)
     call-lasts s (show lot) past ts h = rw (append-nil past, append-nil ts) h
     call-lasts s count past ts h = rw (append-nil past, append-nil ts) h
     call-lasts s (orders depth) past ts h = rw (append-nil past, append-nil ts) h
 
-    -- what every accepted start and every turn done keeps, calls one after another keep
+    -- what every accepted start, every turn done and every retiring done keep, calls one after another keep
     pub calls-last :
         (cs : List Call) (s : State) (past : List Entry) (ts : List ℕ)
         → P s past ts

@@ -17,19 +17,21 @@ use Rattle.turn.specs.declared.Worker.{Worker}
 use Rattle.turn.specs.Worker.{idle, lookFor, removeOf, broken}
 use Rattle.turn.specs.Bucket.{brokenBucket}
 use Rattle.turn.specs.Turn.{Turned, After}
+use Rattle.turn.specs.declared.Retired.{Retired}
 use Rattle.turn.proofs.Sound.{whole-not-broken}
 use Rattle.turn.proofs.Kept.{idle-kept, look-kept, insert-kept, remove-kept}
 use Rattle.engine.specs.declared.Floor.{Floor}
 use Rattle.engine.specs.declared.Started.{Started}
 use Rattle.engine.specs.Board.{emptyBucket}
-use Rattle.engine.specs.Refusals.{wrongSizes, openNumber, startNumber, eachNumber, turnNumber, runNumber}
-use Rattle.engine.specs.Calls.{Ran, planned, startCall, turned, turnCall, unbegun, blank, recordIn, goOn, runFrom, runCall}
+use Rattle.engine.specs.Refusals.{wrongSizes, openNumber, startNumber, eachNumber, turnNumber, retireNumber, runNumber}
+use Rattle.engine.specs.Calls.{Ran, planned, startCall, turned, turnCall, retired, retireCall, unbegun, blank, recordIn, goOn, runFrom, runCall}
 use Rattle.engine.proofs.Sizes.{right-listed}
 use Rattle.engine.proofs.Buckets.{length-opened}
 use Rattle.engine.proofs.Turns.{own}
 use Rattle.engine.proofs.Keeps.{Keeps, each-keeps, turn-keeps}
-use Rattle.history.specs.History.{State, Opening, Call, look, insert, remove, turn, run, show, count, orders, opened, recordOf, seatOf, runOf}
-use Rattle.history.specs.History.{startedAs, turnedAs, ranAs, after, stateFrom, state}
+use Rattle.engine.proofs.Retiring.{retire-accepted, vacated-board-long, vacated-unbroken}
+use Rattle.history.specs.History.{State, Opening, Call, look, insert, remove, turn, retire, run, show, count, orders, opened, recordOf, seatOf, runOf}
+use Rattle.history.specs.History.{retireBy, startedAs, turnedAs, retiredAs, ranAs, after, stateFrom, state}
 use Rattle.history.specs.Numbers.{OneOf}
 use Rattle.history.specs.Unbroken.{Unbroken}
 use Rattle.history.proofs.Opened.{opened-is, opened-right, opened-bucket}
@@ -119,6 +121,24 @@ module _ (s : State) (ok : Unbroken s) (i : ℕ) where
         buckets = λ b under. keeps .buckets b (ok .buckets b under);
       }
 
+  -- ---- a retiring
+
+  -- a retiring keeps a state unbroken, done or refused
+  retire-unbroken : Unbroken (retiredAs s i (retireBy s i))
+  unfolding retireCall retired wrongSizes
+  retire-unbroken =
+      let w = recordOf s i in
+      let number = retireNumber (s .floor) (s .board) (length (s .records)) i w in
+      by-cases (λ (x : After Retired). Unbroken (retiredAs s i x)) (eqb number 0) _ _
+      (λ is.
+      let known = retire-accepted (s .floor) (s .board) (length (s .records)) i w (eqb-true number 0 is) in
+      record {
+        sized = rw (vacated-board-long (s .floor) (s .board) w (known .0), length-set (s .records) i idle) (ok .sized);
+        records = set-unbroken idle (λ under. idle-kept);
+        buckets = λ b under. vacated-unbroken (s .floor) (s .board) w (known .0) (known .1) b (ok .buckets b under);
+      })
+      (λ isnot. seated-unbroken _ _ refl refl (ok .records i))
+
 -- ---- a run
 
 -- how a run on floor f comes out: what it leaves is unbroken, and the number that stopped it is 2 or 6, or none did
@@ -176,6 +196,7 @@ after-unbroken s (insert i lot t) ok =
     start-unbroken s ok i _ _ _ refl refl (λ early. insert-kept lot (t .number) (omega (arith, leb-false (t .number) (s .floor .last) early)))
 after-unbroken s (remove i lot) ok = start-unbroken s ok i false (removeOf lot) (s .floor) refl refl (λ early. remove-kept lot)
 after-unbroken s (turn i) ok = turned-unbroken s ok i _ _ (turn-keeps (s .board) (seatOf s i) (recordOf s i))
+after-unbroken s (retire i) ok = retire-unbroken s ok i
 after-unbroken s (run turns) ok = run-unbroken s ok turns
 after-unbroken s (show lot) ok = ok
 after-unbroken s count ok = ok

@@ -7,18 +7,19 @@ use mathlib.Core.Logic.{inl, inr}
 use mathlib.Core.Path.{_≡_, refl}
 use native.Mathlib.Nat.{mod-lt}
 use native.Mathlib.Omega.{arith}
-use lib.Dec.{ltb}
+use lib.Dec.{eqb, ltb}
 use lib.ListN.{length}
 use borrow.Author.Tests.{leb-false, lt-leb, le-ltb}
 use Rattle.mark.proofs.Choices.{by-cases}
-use Rattle.turn.specs.Worker.{idle, isIdle}
+use Rattle.turn.specs.Worker.{noSlot, idle, isIdle}
 use Rattle.turn.specs.Bucket.{brokenBucket}
 use Rattle.turn.specs.Turn.{turnRefusal}
+use Rattle.turn.specs.Retire.{retireRefusal}
 use Rattle.turn.proofs.Kept.{not-idle, is-idle, idle-kept}
 use Rattle.engine.specs.declared.Floor.{Floor}
 use Rattle.engine.specs.Board.{bucketAt, anyBroken}
 use Rattle.engine.specs.Refusals.{wrongFloor, wrongSizes, noWorker, bucketFor}
-use Rattle.engine.specs.Refusals.{startNumber, eachNumber, turnNumber, runNumber, showNumber, countNumber}
+use Rattle.engine.specs.Refusals.{startNumber, eachNumber, turnNumber, retireNumber, runNumber, showNumber, countNumber}
 use Rattle.engine.proofs.Sizes.{both-fail, right-sizes, right-listed}
 use Rattle.engine.proofs.Keeps.{each-unrefused}
 use Rattle.walks.specs.Calls.{notSmall, ordersNumber}
@@ -96,6 +97,30 @@ module _ (s : State) (ok : Unbroken s) where
   pub turn-numbers : (i : ℕ) → OneOf (0 ∷ 2 ∷ 6 ∷ []) (turnNumber (s .floor) (s .board) (length (s .records)) i (recordOf s i))
   unfolding turnNumber
   turn-numbers i = rw (ok .sized) (each-numbers i)
+
+  -- a retiring is done, or refused by 2 or 6
+  pub retire-numbers : (i : ℕ) → OneOf (0 ∷ 2 ∷ 6 ∷ []) (retireNumber (s .floor) (s .board) (length (s .records)) i (recordOf s i))
+  unfolding retireNumber retireRefusal
+  retire-numbers i =
+      let w = recordOf s i in
+      let left : List ℕ = 0 ∷ 2 ∷ 6 ∷ [] in
+      rw (ok .sized)
+      (either-of left (noWorker (s .floor) i) 2 _ (inr (inl refl))
+      (λ there. rw (ok .records i (leb-false _ _ there))
+      (either-of left (isIdle w) 6 _ (inr (inr (inl refl)))
+      (λ busy. rw (lot-unbroken (w .key)) (either-of left (eqb (w .held) noSlot) 0 0 (inl refl) (λ held. inl refl))))))
+
+  -- a busy worker's retiring is never refused
+  pub busy-retires :
+      (i : ℕ)
+      → i < s .floor .workers
+      → (recordOf s i ≡ idle → ⊥)
+      → retireNumber (s .floor) (s .board) (length (s .records)) i (recordOf s i) ≡ 0
+  unfolding retireNumber retireRefusal
+  busy-retires i under busy =
+      let w = recordOf s i in
+      rw (ok .sized, lt-leb (s .floor .workers) i under, ok .records i under, not-idle w busy, lot-unbroken (w .key))
+      (by-cases (λ (n : ℕ). n ≡ 0) (eqb (w .held) noSlot) 0 0 (λ none. refl) (λ held. refl))
 
   -- a run is refused as a whole by 9 only
   pub run-numbers : (turns : List ℕ) → OneOf (0 ∷ 9 ∷ []) (runNumber (s .floor) (s .board) (length (s .records)) turns)

@@ -1,5 +1,5 @@
--- On an opened board the version of a bucket tells its commits, and the number of its valid marks the commits less the closes.
--- Assumes nothing.
+-- On an opened board the version of a bucket tells its commits and the retirings that gave a slot back, and the number of its valid marks the
+-- commits less the closes. Assumes nothing.
 use Prim.Native.Nat.{ℕ, _+_, _%_, _^_}
 use mathlib.Core.List.{List, _∷_}
 use mathlib.Core.Path.{_≡_, refl, sym, subst, _∙_}
@@ -8,10 +8,10 @@ use native.Mathlib.Omega.{arith}
 use Rattle.mark.specs.Word.{version, countMarks}
 use Rattle.turn.specs.declared.Worker.{Worker}
 use Rattle.turn.specs.Effects.{Effect}
-use Rattle.history.specs.Trace.{Entry, total}
-use Rattle.history.proofs.View.{View, Acts}
-use Rattle.history.proofs.Lawful.{committed, closed, version-effect, valid-effect}
-use Rattle.history.proofs.Counts.{commitOf, closeOf, inBucket, in-bucket, out-of-bucket}
+use Rattle.history.specs.Trace.{Entry, bucketIn, total}
+use Rattle.history.proofs.View.{View, Acts, act-version}
+use Rattle.history.proofs.Lawful.{committed, closed, valid-effect}
+use Rattle.history.proofs.Counts.{commitOf, closeOf, bumpOf, inBucket, in-bucket, out-of-bucket}
 use Rattle.history.proofs.Held.{Kept, act-lawful}
 
 -- the commits of a bucket
@@ -22,41 +22,46 @@ commitsAt b past = total (inBucket b commitOf) past
 abbrev pub closesAt : ℕ → List Entry → ℕ
 closesAt b past = total (inBucket b closeOf) past
 
+-- what moved the version of a bucket
+abbrev pub bumpsAt : ℕ → List Entry → ℕ
+bumpsAt b past = total (inBucket b bumpOf) past
+
 -- what the mark word m of a bucket opened at version v tells of its entries
 pub record Tells (v b : ℕ) (past : List Entry) (m : ℕ) : Type 0 where
-  pub commits : version m ≡ (v + commitsAt b past) % 2 ^ 32
+  pub bumps : version m ≡ (v + bumpsAt b past) % 2 ^ 32
   pub valid : countMarks 1 m + closesAt b past ≡ commitsAt b past
 
 module _ (v n : ℕ) (s : View) (e : Entry) (w : Worker) (t : View) (kept : Kept n s) (act : Acts n s e w t) (past : List Entry) where
   abbrev effect : Effect
   effect = act .effect
 
-  here-tells : Tells v (e .report .bucket) past (s .marks (e .report .bucket)) → Tells v (e .report .bucket) (e ∷ past) (t .marks (e .report .bucket))
+  here-tells : Tells v (bucketIn e) past (s .marks (bucketIn e)) → Tells v (bucketIn e) (e ∷ past) (t .marks (bucketIn e))
   unfolding total
   here-tells old =
-      let b = e .report .bucket in
+      let b = bucketIn e in
       let m = s .marks b in
       let commits : inBucket b commitOf e ≡ committed effect = in-bucket b commitOf e refl ∙ act .commits in
       let closes : inBucket b closeOf e ≡ closed effect = in-bucket b closeOf e refl ∙ act .closes in
       let valid = valid-effect effect m (act-lawful n s e w t kept act) in
-      rw (act .here)
-      (record {
-        commits = omega (arith, version-effect effect m, commits, old .commits);
-        valid = omega (arith, valid, commits, closes, old .valid);
-      })
+      record {
+        bumps = omega (arith, act-version act b, old .bumps);
+        valid = rw (act .here) (omega (arith, valid, commits, closes, old .valid));
+      }
 
-  there-tells : (b : ℕ) → (e .report .bucket ≡ b → ⊥) → Tells v b past (s .marks b) → Tells v b (e ∷ past) (t .marks b)
+  there-tells : (b : ℕ) → (bucketIn e ≡ b → ⊥) → Tells v b past (s .marks b) → Tells v b (e ∷ past) (t .marks b)
   unfolding total
   there-tells b other old =
       let commits = out-of-bucket b commitOf e other in
       let closes = out-of-bucket b closeOf e other in
-      rw (act .there b (λ is. other (sym is)))
-      (record { commits = omega (arith, commits, old .commits); valid = omega (arith, commits, closes, old .valid) })
+      record {
+        bumps = omega (arith, act-version act b, old .bumps);
+        valid = rw (act .there b (λ is. other (sym is))) (omega (arith, commits, closes, old .valid));
+      }
 
-  -- a turn keeps it so
+  -- a turn and a retiring keep it so
   pub act-tells : (b : ℕ) → Tells v b past (s .marks b) → Tells v b (e ∷ past) (t .marks b)
-  act-tells b = by (ℕ-discrete (e .report .bucket) b)
+  act-tells b = by (ℕ-discrete (bucketIn e) b)
     where
-      by : Dec (e .report .bucket ≡ b) → Tells v b past (s .marks b) → Tells v b (e ∷ past) (t .marks b)
+      by : Dec (bucketIn e ≡ b) → Tells v b past (s .marks b) → Tells v b (e ∷ past) (t .marks b)
       by (yes is) = subst (λ (b : ℕ). Tells v b past (s .marks b) → Tells v b (e ∷ past) (t .marks b)) is here-tells
       by (no other) = there-tells b other

@@ -1,23 +1,26 @@
--- What demand 3 goes by: of the board the mark words, of the floor the last ticket, and the records; and the two things that can
--- happen to them, an accepted start and a turn that is done. Assumes nothing.
-use Prim.Native.Nat.{ℕ, _+_, _^_, _≤_, _<_}
+-- What demand 3 goes by: of the board the mark words, of the floor the last ticket, and the records; and what can happen to them: an
+-- accepted start, and a turn or a retiring that is done. Assumes nothing.
+use Prim.Native.Nat.{ℕ, _+_, _%_, _^_, _≤_, _<_}
 use mathlib.Core.Bool.{cond}
 use mathlib.Core.List.{List, [], _∷_}
-use mathlib.Core.Path.{_≡_, sym, _∙_}
+use mathlib.Core.Path.{_≡_, refl, sym, ap, _∙_}
 use native.Mathlib.Decide.{ℕ-discrete}
+use native.Mathlib.Omega.{arith}
 use lib.Dec.{eqb}
 use lib.ListN.{length, set}
 use lib.Seq.{getD-set-same, getD-set-other}
+use Rattle.mark.specs.Word.{version}
+use Rattle.mark.proofs.Fields.{version-lt}
 use Rattle.turn.specs.declared.Worker.{Worker}
 use Rattle.turn.specs.Worker.{lookKind, insertKind, removeKind, noSlot, idle}
-use Rattle.turn.specs.Effects.{Effect, effectOn}
+use Rattle.turn.specs.Effects.{Effect, effectOn, effectOfRetiring}
 use Rattle.turn.proofs.Effects.{Aimed, Moves, Swapper, Went}
 use Rattle.turn.proofs.Kept.{Idles}
 use Rattle.engine.specs.Board.{bucketOf}
 use Rattle.engine.specs.Calls.{recordIn, blank}
-use Rattle.history.specs.Trace.{Entry}
-use Rattle.history.proofs.Lawful.{committed, closed, changed, quiet-effect}
-use Rattle.history.proofs.Counts.{changeOf, commitOf, closeOf}
+use Rattle.history.specs.Trace.{Turn, Retiring, Entry, acted, retired, who, wasOf, bucketIn}
+use Rattle.history.proofs.Lawful.{committed, closed, changed, bumped, version-effect, quiet-effect}
+use Rattle.history.proofs.Counts.{changeOf, commitOf, closeOf, bumpOf, inBucket, in-bucket, out-of-bucket}
 
 -- the mark word of each bucket, the records, and the last ticket
 pub record View : Type 0 where
@@ -65,27 +68,42 @@ pub record Starts (s : View) (v : Worker) (t : View) : Type 0 where
   pub last : s .last + inserting v ≤ t .last
   pub fits : s .last < 2 ^ 32 → t .last < 2 ^ 32
 
--- a turn that is done, on a board of n buckets: the worker's record becomes v, and the mark word of its bucket what the effect makes of it
-pub record Acts (n : ℕ) (s : View) (e : Entry) (v : Worker) (t : View) : Type 0 where
-  pub effect : Effect
-  pub within : e .worker < length (s .records)
-  pub records : t .records ≡ set (s .records) (e .worker) v
-  pub last : t .last ≡ s .last
-  pub bucket : e .report .bucket ≡ bucketOf (worker s (e .worker) .key) n
-  pub was : e .was ≡ worker s (e .worker)
-  -- the mark word that it found there, and the one that it left
+-- what a turn that is done tells beside: it leaves v
+pub record Told (s : View) (e : Turn) (v : Worker) (t : View) : Type 0 where
+  -- the mark word that it found in its bucket, and the one that it left
   pub before : e .report .before ≡ s .marks (e .report .bucket)
   pub after : e .report .after ≡ t .marks (e .report .bucket)
+  pub went : Went (s .marks (e .report .bucket)) (worker s (e .worker)) v (e .report .action)
+  pub idles : Idles (e .report .progress) v
+
+-- a retiring tells nothing, and leaves the worker idle, with this effect
+pub record Silent (r : Retiring) (effect : Effect) (v : Worker) : Type 0 where
+  pub effect-is : effect ≡ effectOfRetiring (r .was)
+  pub idles : v ≡ idle
+
+-- what an entry with this effect tells
+abbrev pub Tells : View → Entry → Effect → Worker → View → Type 0
+Tells s (acted e) effect v t = Told s e v t
+Tells s (retired r) effect v t = Silent r effect v
+
+-- what is done to a worker, on a board of n buckets: its record becomes v, and the mark word of its bucket what the effect makes of it
+pub record Acts (n : ℕ) (s : View) (e : Entry) (v : Worker) (t : View) : Type 0 where
+  pub effect : Effect
+  pub within : who e < length (s .records)
+  pub records : t .records ≡ set (s .records) (who e) v
+  pub last : t .last ≡ s .last
+  pub bucket : bucketIn e ≡ bucketOf (worker s (who e) .key) n
+  pub was : wasOf e ≡ worker s (who e)
   -- what the entry counts for is what the effect does
   pub commits : commitOf e ≡ committed effect
   pub closes : closeOf e ≡ closed effect
   pub changes : changeOf e ≡ changed effect
-  pub here : t .marks (e .report .bucket) ≡ effectOn effect (s .marks (e .report .bucket))
-  pub there : (c : ℕ) → (c ≡ e .report .bucket → ⊥) → t .marks c ≡ s .marks c
-  pub moves : Moves (s .marks (e .report .bucket)) (worker s (e .worker)) effect v
-  pub went : Went (s .marks (e .report .bucket)) (worker s (e .worker)) v (e .report .action)
-  pub aims : Aimed (worker s (e .worker)) → Aimed v
-  pub idles : Idles (e .report .progress) v
+  pub bumps : bumpOf e ≡ bumped effect
+  pub here : t .marks (bucketIn e) ≡ effectOn effect (s .marks (bucketIn e))
+  pub there : (c : ℕ) → (c ≡ bucketIn e → ⊥) → t .marks c ≡ s .marks c
+  pub moves : Moves (s .marks (bucketIn e)) (worker s (who e)) effect v
+  pub aims : Aimed (worker s (who e)) → Aimed v
+  pub tells : Tells s e effect v t
 
 -- one after another: these entries, and calls that may make so many changes
 pub data Walk (n : ℕ) : View → List Entry → ℕ → View → Type 0 where
@@ -95,13 +113,34 @@ pub data Walk (n : ℕ) : View → List Entry → ℕ → View → Type 0 where
 
 -- ---- the mark word of each bucket then
 
--- a turn that changed nothing leaves them all
+-- what changed nothing leaves them all
 pub quiet-marks : {n : ℕ} {s : View} {e : Entry} {v : Worker} {t : View} → Acts n s e v t → changeOf e ≡ 0 → (c : ℕ) → t .marks c ≡ s .marks c
-quiet-marks {n} {s} {e} {v} {t} act quiet c = by (ℕ-discrete c (e .report .bucket))
+quiet-marks {n} {s} {e} {v} {t} act quiet c = by (ℕ-discrete c (bucketIn e))
   where
-    by : Dec (c ≡ e .report .bucket) → t .marks c ≡ s .marks c
-    by (yes is) = rw is (act .here ∙ quiet-effect (act .effect) (s .marks (e .report .bucket)) (sym (act .changes) ∙ quiet))
+    by : Dec (c ≡ bucketIn e) → t .marks c ≡ s .marks c
+    by (yes is) = rw is (act .here ∙ quiet-effect (act .effect) (s .marks (bucketIn e)) (sym (act .changes) ∙ quiet))
     by (no other) = act .there c other
+
+-- a retiring leaves what its effect makes of the mark word of its bucket
+pub retired-word :
+    {n : ℕ} {s : View} {r : Retiring} {v : Worker} {t : View}
+    → Acts n s (retired r) v t
+    → t .marks (r .bucket) ≡ effectOn (effectOfRetiring (r .was)) (s .marks (r .bucket))
+retired-word {s = s} {r = r} act = act .here ∙ ap (λ (e : Effect). effectOn e (s .marks (r .bucket))) (act .tells .effect-is)
+
+-- the version of a bucket is as much further as what was done moved it there
+pub act-version :
+    {n : ℕ} {s : View} {e : Entry} {v : Worker} {t : View}
+    → Acts n s e v t
+    → (b : ℕ)
+    → version (t .marks b) ≡ (version (s .marks b) + inBucket b bumpOf e) % 2 ^ 32
+act-version {n} {s} {e} {v} {t} act b = by (ℕ-discrete b (bucketIn e))
+  where
+    by : Dec (b ≡ bucketIn e) → version (t .marks b) ≡ (version (s .marks b) + inBucket b bumpOf e) % 2 ^ 32
+    by (yes here) =
+        rw here
+        (omega (arith, ap version (act .here), version-effect (act .effect) (s .marks (bucketIn e)), in-bucket (bucketIn e) bumpOf e refl, act .bumps))
+    by (no other) = omega (arith, ap version (act .there b other), out-of-bucket b bumpOf e (λ is. other (sym is)), version-lt (s .marks b))
 
 -- ---- the record of each worker then
 

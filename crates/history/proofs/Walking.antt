@@ -1,4 +1,4 @@
--- Every call and every history is a walk: accepted starts and turns done, one after another. Assumes nothing.
+-- Every call and every history is a walk: accepted starts, and turns and retirings that are done, one after another. Assumes nothing.
 use Prim.Native.Nat.{ℕ, _+_, _*_}
 use mathlib.Core.Bool.{Bool, true, false, cond}
 use mathlib.Core.List.{List, [], _∷_, _++_, map}
@@ -8,13 +8,14 @@ use lib.Dec.{eqb}
 use lib.ListN.{take}
 use Rattle.engine.specs.declared.Started.{Started}
 use Rattle.history.specs.Trace.{Entry}
-use Rattle.history.specs.History.{State, Opening, Call, look, insert, remove, turn, run, show, count, orders, opened, lookBy, insertBy, removeBy, runOf}
+use Rattle.history.specs.History.{State, Opening, Call, look, insert, remove, turn, retire, run, show, count, orders, opened, lookBy, insertBy, removeBy, runOf}
 use Rattle.history.specs.History.{after, entries, stateFrom, traceFrom, sumFrom, begun, isStart, state, trace, inserts, removes}
 use Rattle.history.proofs.Runs.{run-state, run-trace}
 use Rattle.history.proofs.View.{View, Walk, stays, starts, acts}
 use Rattle.history.proofs.States.{view, recount}
 use Rattle.history.proofs.Starting.{look-fresh, insert-fresh, remove-fresh, start-walk}
 use Rattle.history.proofs.Acting.{turn-walk}
+use Rattle.history.proofs.Retiring.{retire-walk}
 use Rattle.history.proofs.Opened.{opened-is}
 use Rattle.history.proofs.SameSizes.{call-buckets}
 
@@ -43,6 +44,9 @@ module _ (n : ℕ) where
   turn-at : (s : State) (i : ℕ) → s .floor .buckets ≡ n → Walk n (view s) (entries s (turn i)) 0 (view (after s (turn i)))
   turn-at s i is = subst (λ (n : ℕ). Walk n (view s) (entries s (turn i)) 0 (view (after s (turn i)))) is (turn-walk s i)
 
+  retire-at : (s : State) (i : ℕ) → s .floor .buckets ≡ n → Walk n (view s) (entries s (retire i)) 0 (view (after s (retire i)))
+  retire-at s i is = subst (λ (n : ℕ). Walk n (view s) (entries s (retire i)) 0 (view (after s (retire i)))) is (retire-walk s i)
+
   -- turns one by one
   turns-walk :
       (s : State) (turns : List ℕ)
@@ -65,6 +69,7 @@ module _ (n : ℕ) where
       recount _ _ (counted 2 2 refl refl (insertBy s i lot t)) (start-walk s i (insert-fresh (s .floor) lot (t .number) (t .fits)) n)
   call-walk s (remove i lot) is = recount _ _ (counted 3 1 refl refl (removeBy s i lot)) (start-walk s i (remove-fresh (s .floor) lot) n)
   call-walk s (turn i) is = turn-at s i is
+  call-walk s (retire i) is = retire-at s i is
   call-walk s (run turns) is = run-walk s turns is
   call-walk s (show lot) is = stays
   call-walk s count is = stays

@@ -9,23 +9,23 @@ use Rattle.turn.specs.declared.Report.{Report}
 use Rattle.turn.specs.Worker.{ticketPlace}
 use Rattle.turn.specs.Bucket.{valueCell}
 use Rattle.engine.specs.Board.{bucketAt}
-use Rattle.history.specs.Trace.{Entry, Some}
+use Rattle.history.specs.Trace.{Turn, Retiring, Entry, acted, retired, IsTurn, Some}
 use Rattle.history.specs.History.{State, Call, turn, after, turnEntry, stateFrom, traceFrom}
 use Rattle.history.specs.Values.{valueAt, Stores, StoresTicket}
 use Rattle.turn.proofs.Values.{turn-values, turn-stores, turn-ticket, turn-other-cells}
-use Rattle.history.proofs.Steps.{Turns, Lasts, calls-last, by-turn}
+use Rattle.history.proofs.Steps.{Turns, Retires, Lasts, calls-last, by-turn}
 use Rattle.history.proofs.Account.{own-cells, other-cells}
 use Rattle.history.proofs.Later.{some-front, some-last}
 
 -- a turn with an entry is done
-pub entry-turns : (s : State) (i : ℕ) (e : Entry) → turnEntry s i ≡ e ∷ [] → Turns s e (after s (turn i))
+pub entry-turns : (s : State) (i : ℕ) (e : Turn) → turnEntry s i ≡ acted e ∷ [] → Turns s e (after s (turn i))
 entry-turns s i e =
-    by-turn s i (λ (t : State) (es : List Entry). es ≡ e ∷ [] → Turns s e t)
-    (λ d t act is. subst (λ (x : Entry). Turns s x t) (head-eq-of-cons-eq is) act) (λ is. absurd (nil≢cons is))
+    by-turn s i (λ (t : State) (es : List Entry). es ≡ acted e ∷ [] → Turns s e t)
+    (λ d t act is. subst (λ (x : Entry). IsTurn (λ y. Turns s y t) x) (head-eq-of-cons-eq is) act) (λ is. absurd (nil≢cons is))
 
 -- ---- the values that a turn leaves
 
-module _ {s t : State} {e : Entry} (act : Turns s e t) where
+module _ {s t : State} {e : Turn} (act : Turns s e t) where
   abbrev bucket : List ℕ
   bucket = bucketAt (s .board) (e .report .bucket)
 
@@ -77,30 +77,42 @@ module _ {s t : State} {e : Entry} (act : Turns s e t) where
       by (yes is) (yes place) (no other) = inl (store-spares place b p (λ same slot. other slot))
       by (yes is) (yes place) (yes slot) = inr (stores-at place, rw (is, slot) (sym (store-writes (stores-at place))))
 
+-- a retiring changes no value
+pub retire-spares : {s t : State} {r : Retiring} → Retires s r t → (b p : ℕ) → valueAt t b p ≡ valueAt s b p
+retire-spares act b p = act .cells b (valueCell p) (omega arith)
+
 -- ---- the values that calls leave
 
 module _ (b p old : ℕ) where
   -- the value is the old one, or one that a turn stored
   abbrev Written : State → List Entry → List ℕ → Type 0
-  Written s past ts = (valueAt s b p ≡ old) ⊎ Some (StoresTicket (valueAt s b p)) past
+  Written s past ts = (valueAt s b p ≡ old) ⊎ Some (IsTurn (StoresTicket (valueAt s b p))) past
 
   turn-then :
-      {s t : State} {e : Entry} (past : List Entry) (ts : List ℕ) → Turns s e t → Written s past ts → Written t (past ++ (e ∷ [])) ts
+      {s t : State} {e : Turn} (past : List Entry) (ts : List ℕ) → Turns s e t → Written s past ts → Written t (past ++ (acted e ∷ [])) ts
   turn-then {s} {t} {e} past ts act = by (turn-written act b p)
     where
       by :
           (valueAt t b p ≡ valueAt s b p) ⊎ StoresTicket (valueAt t b p) e
-          → (valueAt s b p ≡ old) ⊎ Some (StoresTicket (valueAt s b p)) past
-          → (valueAt t b p ≡ old) ⊎ Some (StoresTicket (valueAt t b p)) (past ++ (e ∷ []))
-      by (inr stores) written = inr (some-last _ past e stores)
+          → (valueAt s b p ≡ old) ⊎ Some (IsTurn (StoresTicket (valueAt s b p))) past
+          → (valueAt t b p ≡ old) ⊎ Some (IsTurn (StoresTicket (valueAt t b p))) (past ++ (acted e ∷ []))
+      by (inr stores) written = inr (some-last _ past (acted e) stores)
       by (inl same) (inl is) = inl (same ∙ is)
-      by (inl same) (inr some) = inr (some-front _ past (e ∷ []) (rw same some))
+      by (inl same) (inr some) = inr (some-front _ past (acted e ∷ []) (rw same some))
+
+  retire-then :
+      {s t : State} {r : Retiring} (past : List Entry) (ts : List ℕ) → Retires s r t → Written s past ts → Written t (past ++ (retired r ∷ [])) ts
+  retire-then {s} {t} {r} past ts act = by (retire-spares act b p)
+    where
+      by : valueAt t b p ≡ valueAt s b p → Written s past ts → Written t (past ++ (retired r ∷ [])) ts
+      by same (inl is) = inl (same ∙ is)
+      by same (inr some) = inr (some-front _ past (retired r ∷ []) (rw same some))
 
   written-lasts : Lasts Written
-  written-lasts = record { begins = λ past ts start written. rw (start .board) written; turns = turn-then }
+  written-lasts = record { begins = λ past ts start written. rw (start .board) written; turns = turn-then; retires = retire-then }
 
 -- a value that calls leave is the one that was there before them, or a ticket that one of their turns stored
 pub values-from :
     (s : State) (cs : List Call) (b p : ℕ)
-    → (valueAt (stateFrom s cs) b p ≡ valueAt s b p) ⊎ Some (StoresTicket (valueAt (stateFrom s cs) b p)) (traceFrom s cs)
+    → (valueAt (stateFrom s cs) b p ≡ valueAt s b p) ⊎ Some (IsTurn (StoresTicket (valueAt (stateFrom s cs) b p))) (traceFrom s cs)
 values-from s cs b p = calls-last (Written b p (valueAt s b p)) (written-lasts b p (valueAt s b p)) cs s [] [] (inl refl)

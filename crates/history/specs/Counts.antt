@@ -2,17 +2,16 @@
 use Prim.Native.Nat.{ℕ}
 use mathlib.Core.Bool.{cond}
 use mathlib.Core.List.{List}
-use mathlib.Core.Logic.{_⊎_, inl, inr, Dec·and}
+use mathlib.Core.Logic.{_⊎_, inl, inr, Dec·and, Dec·not}
 use mathlib.Core.Path.{_≡_, refl, ap}
 use native.Mathlib.Decide.{ℕ-discrete}
 use native.Mathlib.Omega.{arith}
-use lib.ListN.{length}
 use Rattle.turn.specs.declared.Action.{Action}
 use Rattle.turn.specs.declared.Action.the-variants.{Read, Store, Won, Lost}
-use Rattle.turn.specs.Worker.{commitPlace, freePlace, closePlace}
+use Rattle.turn.specs.Worker.{commitPlace, freePlace, closePlace, noSlot}
 use Rattle.engine.specs.declared.Totals.{Totals}
 use Rattle.floor.specs.Told.{actionNumber}
-use Rattle.history.specs.Trace.{Entry, Loses, Changes, Commits, Closes, total}
+use Rattle.history.specs.Trace.{Turn, Entry, acted, retired, Loses, Commits, Closes, IsTurn, Changes, total}
 
 -- ---- tests
 
@@ -49,21 +48,31 @@ either? {A} {B} (no a) (no b) = no neither
 
 -- ---- of an entry
 
--- whether an entry is a lost swap
-abbrev pub isLost : (e : Entry) → Dec (Loses e)
-isLost e = lost? (e .report .action)
+-- whether it is a turn of which P holds, where P can be told of each turn
+abbrev pub turn? : {P : Turn → Type 0} → ((t : Turn) → Dec (P t)) → (e : Entry) → Dec (IsTurn P e)
+turn? test (acted t) = test t
+turn? test (retired r) = no (λ is. is)
+
+-- whether it is a turn
+abbrev pub isTurn : (e : Entry) → Dec (IsTurn (λ t. Unit {0}) e)
+isTurn e = turn? (λ t. yes tt) e
+
+-- whether it is a lost swap
+abbrev pub isLost : (e : Entry) → Dec (IsTurn Loses e)
+isLost e = turn? (λ t. lost? (t .report .action)) e
 
 -- whether it is a change
 abbrev pub isChange : (e : Entry) → Dec (Changes e)
-isChange e = either? (won? (e .report .action)) (Dec·and (ℕ-discrete (e .was .place) freePlace) (store? (e .report .action)))
+isChange (acted t) = either? (won? (t .report .action)) (Dec·and (ℕ-discrete (t .was .place) freePlace) (store? (t .report .action)))
+isChange (retired r) = Dec·not (ℕ-discrete (r .was .held) noSlot)
 
 -- whether it is a commit
-abbrev pub isCommit : (e : Entry) → Dec (Commits e)
-isCommit e = Dec·and (ℕ-discrete (e .was .place) commitPlace) (won? (e .report .action))
+abbrev pub isCommit : (e : Entry) → Dec (IsTurn Commits e)
+isCommit e = turn? (λ t. Dec·and (ℕ-discrete (t .was .place) commitPlace) (won? (t .report .action))) e
 
 -- whether it is a close
-abbrev pub isClose : (e : Entry) → Dec (Closes e)
-isClose e = Dec·and (ℕ-discrete (e .was .place) closePlace) (won? (e .report .action))
+abbrev pub isClose : (e : Entry) → Dec (IsTurn Closes e)
+isClose e = turn? (λ t. Dec·and (ℕ-discrete (t .was .place) closePlace) (won? (t .report .action))) e
 
 -- ---- counts
 
@@ -75,6 +84,10 @@ oneIf (no isnot) = 0
 -- how many entries are such, each tested
 abbrev pub howMany : {P : Entry → Type 0} → ((e : Entry) → Dec (P e)) → List Entry → ℕ
 howMany test trace = total (λ e. oneIf (test e)) trace
+
+-- the turns of a trace
+abbrev pub turnsIn : List Entry → ℕ
+turnsIn trace = howMany isTurn trace
 
 -- §11.3: the lost swaps of a trace, by the reports of its turns
 abbrev pub lostSwaps : List Entry → ℕ
@@ -92,10 +105,15 @@ commitsIn trace = howMany isCommit trace
 abbrev pub closesIn : List Entry → ℕ
 closesIn trace = howMany isClose trace
 
+-- 1 for a turn that was a full round
+abbrev pub roundOf : Entry → ℕ
+roundOf (acted t) = cond (t .report .full) 1 0
+roundOf (retired r) = 0
+
 -- its full rounds
 abbrev pub fullRounds : List Entry → ℕ
-fullRounds trace = total (λ e. cond (e .report .full) 1 0) trace
+fullRounds trace = total roundOf trace
 
 -- the totals of a trace: its turns, and the three counts
 abbrev pub countsOf : List Entry → Totals
-countsOf trace = record { turns = length trace; changes = changesIn trace; lost = lostSwaps trace; full = fullRounds trace }
+countsOf trace = record { turns = turnsIn trace; changes = changesIn trace; lost = lostSwaps trace; full = fullRounds trace }

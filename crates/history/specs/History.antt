@@ -10,13 +10,15 @@ use lib.ListN.{length, set}
 use Rattle.turn.specs.declared.Worker.{Worker}
 use Rattle.turn.specs.Worker.{lookKind, insertKind, removeKind}
 use Rattle.turn.specs.Turn.{Answer, Refused, Done, Turned, After}
+use Rattle.turn.specs.declared.Retired.{Retired}
 use Rattle.engine.specs.declared.Floor.{Floor}
 use Rattle.engine.specs.declared.Plan.{Plan}
 use Rattle.engine.specs.declared.Seat.{Seat}
 use Rattle.engine.specs.declared.Started.{Started}
+use Rattle.engine.specs.Board.{bucketOf}
 use Rattle.engine.specs.Refusals.{openNumber, runNumber}
-use Rattle.engine.specs.Calls.{Opened, Ran, planned, openCall, lookCall, insertCall, removeCall, turnCall, runCall, recordIn, seatIn}
-use Rattle.history.specs.Trace.{Entry}
+use Rattle.engine.specs.Calls.{Opened, Ran, planned, openCall, lookCall, insertCall, removeCall, turnCall, retireCall, runCall, recordIn, seatIn}
+use Rattle.history.specs.Trace.{Entry, acted, retired}
 
 -- ---- the state, and the opening that it comes from
 
@@ -75,6 +77,8 @@ pub data Call : Type 0 where
   remove : ℕ → ℕ → Call
   -- a worker has one turn
   turn : ℕ → Call
+  -- a worker is retired
+  retire : ℕ → Call
   -- workers have their turns in this order
   run : List ℕ → Call
   -- the bucket of a lot is shown
@@ -101,6 +105,10 @@ module _ (s : State) where
   abbrev pub turnBy : ℕ → After Turned
   turnBy i = turnCall (s .board) (seatOf s i) (recordOf s i)
 
+  -- what it says of a retiring
+  abbrev pub retireBy : ℕ → After Retired
+  retireBy i = retireCall (s .board) (seatOf s i) (recordOf s i)
+
   -- what it says of a run
   abbrev pub runOf : List ℕ → After Ran
   runOf turns = runCall (s .board) (s .floor) (s .records) (length (s .records)) turns
@@ -115,6 +123,10 @@ startedAs s i x = record { board = s .board; floor = x .floor; records = set (s 
 abbrev pub turnedAs : State → ℕ → After Turned → State
 turnedAs s i x = record { board = x .words; floor = s .floor; records = set (s .records) i (x .handed .worker) }
 
+-- a retiring leaves the floor; the board and the worker's record are what it leaves and hands back
+abbrev pub retiredAs : State → ℕ → After Retired → State
+retiredAs s i x = record { board = x .words; floor = s .floor; records = set (s .records) i (x .handed .worker) }
+
 -- a run leaves the floor; the board and all records are what it leaves and hands back
 abbrev pub ranAs : State → After Ran → State
 ranAs s x = record { board = x .words; floor = s .floor; records = x .handed .records }
@@ -125,21 +137,31 @@ after s (look i lot) = startedAs s i (lookBy s i lot)
 after s (insert i lot t) = startedAs s i (insertBy s i lot t)
 after s (remove i lot) = startedAs s i (removeBy s i lot)
 after s (turn i) = turnedAs s i (turnBy s i)
+after s (retire i) = retiredAs s i (retireBy s i)
 after s (run turns) = ranAs s (runOf s turns)
 after s (show lot) = s
 after s count = s
 after s (orders depth) = s
 
--- ---- the turns that a call does
+-- ---- what a call does: turns, and retirings
 
 -- the entry of a turn that is done; one that is refused has none
 abbrev pub entryOf : State → ℕ → Answer → List Entry
 entryOf s i (Refused number) = []
-entryOf s i (Done report) = record { worker = i; was = recordOf s i; report = report } ∷ []
+entryOf s i (Done report) = acted (record { worker = i; was = recordOf s i; report = report }) ∷ []
 
 -- the entry of one turn
 abbrev pub turnEntry : State → ℕ → List Entry
 turnEntry s i = entryOf s i (turnBy s i .handed .answer)
+
+-- the entry of a retiring, if worker i is retired
+abbrev pub retiringOf : State → ℕ → Entry
+retiringOf s i =
+    retired (record { worker = i; was = recordOf s i; bucket = bucketOf (recordOf s i .key) (s .floor .buckets) })
+
+-- §19.4: the entry of a retiring that is done; one that is refused has none
+abbrev pub retireEntry : State → ℕ → After Retired → List Entry
+retireEntry s i x = cond (eqb (x .handed .refusal) 0) (retiringOf s i ∷ []) []
 
 -- §4.10: the first turn's entry, and then the rest's; a turn that is refused has none, and none comes after it
 abbrev pub andThen : List Entry → List Entry → List Entry
@@ -161,6 +183,7 @@ entries s (look i lot) = []
 entries s (insert i lot t) = []
 entries s (remove i lot) = []
 entries s (turn i) = turnEntry s i
+entries s (retire i) = retireEntry s i (retireBy s i)
 entries s (run turns) = runEntries s turns
 entries s (show lot) = []
 entries s count = []
@@ -173,7 +196,7 @@ unfoldable pub stateFrom : State → List Call → State
 stateFrom s [] = s
 stateFrom s (c ∷ cs) = stateFrom (after s c) cs
 
--- the turns that calls do, one after another
+-- what calls do, one after another
 unfoldable pub traceFrom : State → List Call → List Entry
 traceFrom s [] = []
 traceFrom s (c ∷ cs) = entries s c ++ traceFrom (after s c) cs
@@ -193,6 +216,7 @@ begins s (look i lot) = begun lookKind (lookBy s i lot)
 begins s (insert i lot t) = begun insertKind (insertBy s i lot t)
 begins s (remove i lot) = begun removeKind (removeBy s i lot)
 begins s (turn i) = 0
+begins s (retire i) = 0
 begins s (run turns) = 0
 begins s (show lot) = 0
 begins s count = 0
@@ -207,7 +231,7 @@ module _ (o : Opening) (calls : List Call) where
   abbrev pub state : State
   state = stateFrom (opened o) calls
 
-  -- the turns that were done
+  -- what was done: turns, and retirings
   abbrev pub trace : List Entry
   trace = traceFrom (opened o) calls
 

@@ -4,7 +4,7 @@ use Prim.Native.Nat.{ℕ, zero, suc, _+_, _≤_, _<_}
 use mathlib.Core.List.{List, [], _∷_}
 use mathlib.Core.Logic.{_⊎_}
 use mathlib.Core.Path.{_≡_}
-use lib.ListN.{length, replicate}
+use lib.ListN.{replicate}
 use Rattle.turn.specs.declared.Worker.{Worker}
 use Rattle.turn.specs.declared.Progress.{Progress}
 use Rattle.turn.specs.declared.Progress.the-variants.{GoesOn, Ended}
@@ -15,9 +15,9 @@ use Rattle.turn.specs.Turn.{Done, Turned, After}
 use Rattle.engine.specs.declared.Started.{Started}
 use Rattle.engine.specs.Board.{bucketOf}
 use Rattle.history.specs.Numbers.{OneOf}
-use Rattle.history.specs.Trace.{Entry, By, Ends, None}
+use Rattle.history.specs.Trace.{Entry, acted, retired, Changes, Ends, OwnEnd, None}
 use Rattle.history.specs.Moment.{AtTurn}
-use Rattle.history.specs.InCall.{InCall, numberInCall}
+use Rattle.history.specs.InCall.{InCall, ownTurns, numberInCall}
 use Rattle.history.specs.Cells.{markAt, keyAt}
 use Rattle.history.specs.History.{State, Opening, Call, Ticket, run, workersOf, recordOf, lookBy, insertBy, removeBy, turnBy, runOf}
 use Rattle.history.specs.History.{startedAs, after, traceFrom, state, trace}
@@ -64,15 +64,20 @@ pub record LookTakes (lot : ℕ) (words : ℕ → List ℕ) : Type 0 where
 
 -- ---- alone
 
--- no turn of these is another worker's than i's
+-- by which worker i is not alone: a turn of another worker, or the retiring of itself or of one that held a slot
+abbrev pub Disturbs : ℕ → Entry → Type 0
+Disturbs i (acted e) = e .worker ≡ i → ⊥
+Disturbs i (retired r) = (r .worker ≡ i) ⊎ Changes (retired r)
+
+-- worker i is alone with these entries
 abbrev pub Alone : ℕ → List Entry → Type 0
-Alone i es = None (λ e. By i e → ⊥) es
+Alone i es = None (Disturbs i) es
 
 -- worker i is idle
 abbrev pub IsIdle : State → ℕ → Type 0
 IsIdle s i = recordOf s i ≡ idle
 
--- §15.2, §15.3: the call that worker i is at in s ends within so many turns of it, if no other worker has one
+-- §15.2, §15.3: the call that worker i is at in s ends within so many turns of it, if it is alone
 pub record EndsAlone (s : State) (i most : ℕ) : Type 0 where
   -- the worker is busy
   pub busy : IsIdle s i → ⊥
@@ -82,8 +87,9 @@ pub record EndsAlone (s : State) (i most : ℕ) : Type 0 where
   pub within : runOf s (replicate most i) .handed .totals .turns ≤ most
   -- and none was refused but one that found it idle already (6)
   pub stops : OneOf (0 ∷ 6 ∷ []) (runOf s (replicate most i) .handed .stop)
-  -- whatever else is called meanwhile: the turns of it that do not end the call are fewer
-  pub meanwhile : (rest : List Call) → Alone i (traceFrom s rest) → None Ends (traceFrom s rest) → length (traceFrom s rest) < most
+  -- whatever else is called meanwhile: as long as its call has not ended it has had fewer
+  pub meanwhile :
+      (rest : List Call) → Alone i (traceFrom s rest) → None (OwnEnd i) (traceFrom s rest) → ownTurns i (traceFrom s rest) < most
 
 -- a run of n turns of worker i in s: all are done, and it is busy still
 pub record GoesOnFor (s : State) (i n : ℕ) : Type 0 where
@@ -91,12 +97,12 @@ pub record GoesOnFor (s : State) (i n : ℕ) : Type 0 where
   pub stops : runOf s (replicate n i) .handed .stop ≡ 0
   pub busy : IsIdle (after s (run (replicate n i))) i → ⊥
 
--- §15.3: the call that worker i is at in s never ends, if no other worker has a turn
+-- §15.3: the call that worker i is at in s never ends, if it is alone
 pub record NeverEndsAlone (s : State) (i : ℕ) : Type 0 where
   -- it goes on for as many turns as a run may have
   pub runs : (n : ℕ) → n ≤ 65535 → GoesOnFor s i n
   -- whatever else is called meanwhile: no turn of it ends the call
-  pub meanwhile : (rest : List Call) → Alone i (traceFrom s rest) → None Ends (traceFrom s rest)
+  pub meanwhile : (rest : List Call) → Alone i (traceFrom s rest) → None (OwnEnd i) (traceFrom s rest)
 
 -- ---- what an insert finds
 
@@ -153,14 +159,14 @@ pub record HowLong (o : Opening) (calls : List Call) : Type 0 where
   -- §15.1: wherever the trace is cut into the call of a look, that has no more than ten turns
   pub look-most : (at : InCall (trace o calls)) → at .turn .was .kind ≡ lookKind → numberInCall at ≤ lookMost
   -- §15.1: and where it has ended it has had four at least
-  pub look-least : (at : InCall (trace o calls)) → at .turn .was .kind ≡ lookKind → Ends (at .turn) → lookLeast ≤ numberInCall at
+  pub look-least : (at : InCall (trace o calls)) → at .turn .was .kind ≡ lookKind → Ends (acted (at .turn)) → lookLeast ≤ numberInCall at
   -- what a worker alone does from here on
   pub alone : CallsAlone (state o calls)
 
--- a history has a call of this kind that has ended with just so many turns, and no other worker had one meanwhile
+-- a history has a call of this kind that has ended with just so many turns, its worker being alone meanwhile
 pub record Takes (o : Opening) (calls : List Call) (kind turns : ℕ) : Type 0 where
   pub at : InCall (trace o calls)
   pub of-kind : at .turn .was .kind ≡ kind
-  pub ends : Ends (at .turn)
+  pub ends : Ends (acted (at .turn))
   pub number : numberInCall at ≡ turns
   pub alone : Alone (at .turn .worker) (at .between)

@@ -13,5 +13,6 @@ pub mod Lots
 pub mod AllOrders
 pub mod InCall
 pub mod HowLong
+pub mod Retirings
 pub mod Openings
 pub mod Trials

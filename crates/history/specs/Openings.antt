@@ -17,6 +17,7 @@ use Rattle.history.specs.Reports.{ReportsChain}
 use Rattle.history.specs.Cells.{Cells}
 use Rattle.history.specs.HowLong.{HowLong}
 use Rattle.history.specs.Unbroken.{Unbroken}
+use Rattle.history.specs.Retirings.{Retirings}
 
 -- whatever may be asked of the library, with any numbers
 pub data Asked : Type 0 where
@@ -104,6 +105,8 @@ pub record AnyOrder (o : Opening) (asked : List Asked) : Type 0 where
   pub reports : ReportsChain (historyOf o asked .opening) (historyOf o asked .calls)
   -- calls take as long as is said
   pub lasting : HowLong (historyOf o asked .opening) (historyOf o asked .calls)
+  -- whoever is at a call can be retired, and one that comes back after all finds its word never again
+  pub retires : Retirings (historyOf o asked .opening) (historyOf o asked .calls)
   -- held slots are filled, and valid ones have a lot of their bucket and a ticket
   pub cells : Cells (leavesAll (opened o) asked)
   -- and nothing is broken

@@ -1,17 +1,18 @@
 -- What the reports of an opened board tell. That they do so after every opening and every list of calls is `reports-chain`, in
 -- proofs/Reports; what a turn and a run tell C is in proofs/Library.
 use Prim.Native.Nat.{ℕ, _<_}
-use mathlib.Core.Bool.{true, false}
+use mathlib.Core.Bool.{true, false, cond}
 use mathlib.Core.List.{List, [], _∷_}
-use mathlib.Core.Logic.{_⊎_}
 use mathlib.Core.Path.{_≡_}
+use lib.Dec.{eqb}
 use Rattle.turn.specs.declared.Progress.the-variants.{GoesOn, Ended}
 use Rattle.turn.specs.declared.Report.{Report}
 use Rattle.turn.specs.Bucket.{cell, markCell}
+use Rattle.turn.specs.Effects.{effectOn, effectOfRetiring}
 use Rattle.engine.specs.Board.{bucketOf, emptyBucket}
 use Rattle.floor.specs.declared.ReportOutcome.{ReportOutcome}
 use Rattle.floor.specs.Told.{actionNumber}
-use Rattle.history.specs.Trace.{Entry, Wins, Loses, Changes, In, Cut, None}
+use Rattle.history.specs.Trace.{Turn, Entry, acted, retired, Wins, Loses, Changes, bucketIn, In, Cut, None}
 use Rattle.history.specs.Moment.{AtTurn, AtMoment, ChangedByAnother}
 use Rattle.history.specs.History.{Opening, Call, state, trace}
 use Rattle.history.specs.Cells.{markWordAt}
@@ -21,7 +22,8 @@ use Rattle.history.specs.Cells.{markWordAt}
 -- §4.13: the report of the last turn, or this one where there is none
 unfoldable pub lastReport : Report → List Entry → Report
 lastReport r [] = r
-lastReport r (e ∷ es) = lastReport (e .report) es
+lastReport r (acted e ∷ es) = lastReport (e .report) es
+lastReport r (retired x ∷ es) = lastReport r es
 
 -- §14.9: what C is told says what the report does
 pub record InNumbers (r : Report) (x : ReportOutcome) : Type 0 where
@@ -49,43 +51,54 @@ pub record OnlyAction (action : ℕ) (x : ReportOutcome) : Type 0 where
 abbrev pub openedWord : Opening → ℕ
 openedWord o = cell (emptyBucket (o .plan .version)) markCell
 
--- §16.1: m is the mark word that these turns leave in bucket b: their last one there reports it, or none is there and m is the first word
-abbrev pub LeftIn : ℕ → ℕ → List Entry → ℕ → Type 0
-LeftIn first b turns m =
-    (None (In b) turns × (m ≡ first)) ⊎ Cut (λ e newer. In b e × None (In b) newer × (m ≡ e .report .after)) turns
+-- §16.1, §19.4: what an entry makes of the mark word of its bucket: a turn leaves there what it reports, and a retiring empties the held slot
+abbrev pub leftBy : Entry → ℕ → ℕ
+leftBy (acted e) m = e .report .after
+leftBy (retired r) m = effectOn (effectOfRetiring (r .was)) m
 
--- §16.2: the two words of a turn's report differ
+-- §16.1: the mark word of bucket b after these entries, where it was m before them
+unfoldable pub wordAfter : ℕ → ℕ → List Entry → ℕ
+wordAfter b m [] = m
+wordAfter b m (e ∷ es) = wordAfter b (cond (eqb (bucketIn e) b) (leftBy e m) m) es
+
+-- §16.2: the two words of a turn's report differ; a retiring leaves another word where a slot was held
 abbrev pub Differs : Entry → Type 0
-Differs e = e .report .after ≡ e .report .before → ⊥
+Differs (acted e) = e .report .after ≡ e .report .before → ⊥
+Differs (retired r) = Changes (retired r)
 
--- §16.4: e made the swap y lose, with these turns since
-pub record MadeLose (y e : Entry) (since : List Entry) : Type 0 where
+-- §16.4: where it is a turn, it left this word; a retiring reports none
+abbrev pub LeftWord : ℕ → Entry → Type 0
+LeftWord m (acted e) = e .report .after ≡ m
+LeftWord m (retired r) = Unit {0}
+
+-- §16.4: e made the swap y lose, with these entries since
+pub record MadeLose (y : Turn) (e : Entry) (since : List Entry) : Type 0 where
   -- e is a change in the bucket of y, by another worker
   pub another : ChangedByAnother y e
-  -- the two words of its report differ
+  -- the two words of its report differ, if it is a turn
   pub differs : Differs e
   -- the word that it left is the one that y found
-  pub left : e .report .after ≡ y .report .before
-  -- and no turn in that bucket since has two words that differ
+  pub left : LeftWord (y .report .before) e
+  -- and nothing in that bucket since has left another word
   pub latest : None (λ x. In (y .report .bucket) x × Differs x) since
 
 -- what the reports of the turns tell, after an opening and the calls since
 pub record ReportsChain (o : Opening) (calls : List Call) : Type 0 where
   -- §4.12: a turn reports the bucket of its worker's lot
-  pub homes : (at : AtTurn (trace o calls)) → In (bucketOf (at .turn .was .key) (o .plan .buckets)) (at .turn)
-  -- §16.1: a turn finds the word that the last turn before it in its bucket left, or the opening's
-  pub chained : (at : AtTurn (trace o calls)) → LeftIn (openedWord o) (at .turn .report .bucket) (at .before) (at .turn .report .before)
-  -- §16.1: after all turns each bucket has the word that the last turn there left, or the opening's
-  pub stands : (b : ℕ) → b < o .plan .buckets → LeftIn (openedWord o) b (trace o calls) (markWordAt (state o calls) b)
+  pub homes : (at : AtTurn (trace o calls)) → In (bucketOf (at .turn .was .key) (o .plan .buckets)) (acted (at .turn))
+  -- §16.1: a turn finds the word that the entries before it leave in its bucket, from the opening's on
+  pub chained : (at : AtTurn (trace o calls)) → at .turn .report .before ≡ wordAfter (at .turn .report .bucket) (openedWord o) (at .before)
+  -- §16.1: each bucket has the word that all entries leave there
+  pub stands : (b : ℕ) → b < o .plan .buckets → markWordAt (state o calls) b ≡ wordAfter b (openedWord o) (trace o calls)
   -- §16.2: a change leaves another word than it found
-  pub changes : (at : AtTurn (trace o calls)) → Changes (at .turn) → Differs (at .turn)
+  pub changes : (at : AtTurn (trace o calls)) → Changes (acted (at .turn)) → Differs (acted (at .turn))
   -- §16.2: a turn that is no change leaves the word that it found
-  pub keeps : (at : AtTurn (trace o calls)) → (Changes (at .turn) → ⊥) → at .turn .report .after ≡ at .turn .report .before
+  pub keeps : (at : AtTurn (trace o calls)) → (Changes (acted (at .turn)) → ⊥) → at .turn .report .after ≡ at .turn .report .before
   -- §16.3: a swap that is won finds the word that its moment left
   pub wins : (at : AtMoment (trace o calls)) → Wins (at .turn) → at .turn .report .before ≡ at .moment .report .after
   -- §16.3: a swap that is lost finds another word than its moment left
   pub loses : (at : AtMoment (trace o calls)) → Loses (at .turn) → at .turn .report .before ≡ at .moment .report .after → ⊥
-  -- §16.4: a swap that is lost was made to lose by a turn between its moment and itself
+  -- §16.4: a swap that is lost was made to lose by something between its moment and itself
   pub made-lose : (at : AtMoment (trace o calls)) → Loses (at .turn) → Cut (MadeLose (at .turn)) (at .between)
-  -- §16.4: so whoever goes back from it through all turns, with no moment given, comes to a turn that made it lose
+  -- §16.4: so whoever goes back from it through all that was done, with no moment given, comes to what made it lose
   pub named : (at : AtTurn (trace o calls)) → Loses (at .turn) → Cut (MadeLose (at .turn)) (at .before)

@@ -2,7 +2,7 @@
 -- between two calls.
 use mathlib.Core.List.{List, [], _∷_, _++_, map}
 use lib.ListN.{take}
-use Rattle.history.specs.History.{State, Opening, Call, look, insert, remove, turn, run, show, count, orders, opened, runOf, after}
+use Rattle.history.specs.History.{State, Opening, Call, look, insert, remove, turn, retire, run, show, count, orders, opened, runOf, after}
 
 -- a call by itself, or the turns that a run does
 abbrev pub single : State → Call → List Call
@@ -10,6 +10,7 @@ single s (look i lot) = look i lot ∷ []
 single s (insert i lot t) = insert i lot t ∷ []
 single s (remove i lot) = remove i lot ∷ []
 single s (turn i) = turn i ∷ []
+single s (retire i) = retire i ∷ []
 single s (run turns) = map turn (take (runOf s turns .handed .totals .turns) turns)
 single s (show lot) = show lot ∷ []
 single s count = count ∷ []
@@ -32,6 +33,7 @@ NoRuns (look i lot ∷ cs) = NoRuns cs
 NoRuns (insert i lot t ∷ cs) = NoRuns cs
 NoRuns (remove i lot ∷ cs) = NoRuns cs
 NoRuns (turn i ∷ cs) = NoRuns cs
+NoRuns (retire i ∷ cs) = NoRuns cs
 NoRuns (show lot ∷ cs) = NoRuns cs
 NoRuns (count ∷ cs) = NoRuns cs
 NoRuns (orders depth ∷ cs) = NoRuns cs

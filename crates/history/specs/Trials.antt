@@ -1,10 +1,11 @@
--- Trials P6 and P11, and the longest calls, as the calls of a history (decision 78); and the mark words that P6 reports.
+-- Trials P6 and P11, the longest calls, and a container that is retired, as the calls of a history (decision 78); and the mark words that P6
+-- reports.
 use Prim.Native.Nat.{ℕ}
 use mathlib.Core.List.{List, [], _∷_, _++_}
 use lib.ListN.{replicate}
 use Rattle.engine.specs.declared.Plan.{Plan}
 use Rattle.history.specs.HowLong.{lookLeast, lookMost, removeMost, insertMost}
-use Rattle.history.specs.History.{Call, look, insert, remove, run, ticket}
+use Rattle.history.specs.History.{Call, look, insert, remove, retire, run, ticket}
 
 -- one bucket and version 0, as the trials have it, and so many workers
 abbrev pub planFor : ℕ → Plan
@@ -73,6 +74,16 @@ repeatedWord = wordRepeats ++ turnsOf A 1 ∷ []
 -- §6.2, §10.7: a ticket that was taken before, and a worker whose number is the number of workers
 abbrev pub refusedStarts : List Call
 refusedStarts = insert 0 7 (ticket 1) ∷ insert 1 8 (ticket 1) ∷ remove 2 7 ∷ []
+
+-- ---- a container that does not come back
+
+-- §19.2: worker 0 claims a slot, fills it, and is retired before its commit
+abbrev pub retiredHolder : List Call
+retiredHolder = insert 0 7 (ticket 1) ∷ turnsOf 0 10 ∷ retire 0 ∷ []
+
+-- §19.5: then worker 1 claims the same slot
+abbrev pub claimedAgain : List Call
+claimedAgain = retiredHolder ++ (insert 1 8 (ticket 2) ∷ turnsOf 1 8 ∷ [])
 
 -- ---- calls that take just as many turns as a call of their kind can, or as few
 

@@ -11,9 +11,9 @@ use Rattle.turn.specs.Worker.{ticketPlace}
 use Rattle.turn.specs.Bucket.{cell, valueCell}
 use Rattle.engine.specs.Board.{bucketAt}
 use Rattle.history.specs.Numbers.{OneOf, Rising}
-use Rattle.history.specs.Trace.{Entry, Some, None}
+use Rattle.history.specs.Trace.{Turn, acted, IsTurn, Some, None}
 use Rattle.history.specs.Moment.{AtTurn}
-use Rattle.history.specs.History.{State, Opening, Call, look, insert, remove, turn, run, show, count, orders, opened, insertBy}
+use Rattle.history.specs.History.{State, Opening, Call, look, insert, remove, turn, retire, run, show, count, orders, opened, insertBy}
 use Rattle.history.specs.History.{after, turnEntry, traceFrom, state, trace}
 
 -- the value that stands in a slot of a bucket; what is said of values below needs no bound on either number
@@ -21,11 +21,11 @@ abbrev pub valueAt : State → ℕ → ℕ → ℕ
 valueAt s b p = cell (bucketAt (s .board) b) (valueCell p)
 
 -- a turn that stores its worker's ticket
-abbrev pub Stores : Entry → Type 0
+abbrev pub Stores : Turn → Type 0
 Stores e = (e .was .place ≡ ticketPlace) × (e .report .action ≡ Store)
 
 -- a turn that stores this ticket
-abbrev pub StoresTicket : ℕ → Entry → Type 0
+abbrev pub StoresTicket : ℕ → Turn → Type 0
 StoresTicket t e = Stores e × (e .was .ticket ≡ t)
 
 -- ---- tickets
@@ -36,6 +36,7 @@ spentBy s (look i lot) = []
 spentBy s (insert i lot t) = cond (eqb (insertBy s i lot t .refusal) 0) (t .number ∷ []) []
 spentBy s (remove i lot) = []
 spentBy s (turn i) = []
+spentBy s (retire i) = []
 spentBy s (run turns) = []
 spentBy s (show lot) = []
 spentBy s count = []
@@ -59,7 +60,7 @@ pub record NoValueComesBack (o : Opening) (calls : List Call) : Type 0 where
   -- the ticket that a turn stores is one of the accepted ones
   pub stores-ticket : (at : AtTurn (trace o calls)) → Stores (at .turn) → OneOf (tickets o calls) (at .turn .was .ticket)
   -- no turn stores a ticket that a turn before it stored
-  pub stored-once : (at : AtTurn (trace o calls)) → Stores (at .turn) → None (StoresTicket (at .turn .was .ticket)) (at .before)
+  pub stored-once : (at : AtTurn (trace o calls)) → Stores (at .turn) → None (IsTurn (StoresTicket (at .turn .was .ticket))) (at .before)
   -- wherever the calls are cut before a turn that stores, no slot of any bucket had its ticket as a value then
   pub stood-nowhere :
       (earlier rest : List Call)
@@ -71,21 +72,23 @@ pub record NoValueComesBack (o : Opening) (calls : List Call) : Type 0 where
       → ⊥
   -- a turn that comes next and stores leaves its ticket as the value of the slot that it holds
   pub writes :
-      (i : ℕ) (e : Entry)
-      → turnEntry (state o calls) i ≡ e ∷ []
+      (i : ℕ) (e : Turn)
+      → turnEntry (state o calls) i ≡ acted e ∷ []
       → Stores e
       → valueAt (after (state o calls) (turn i)) (e .report .bucket) (e .was .held) ≡ e .was .ticket
   -- a turn that comes next leaves every other value as it was, and all of them where it does not store
   pub spares :
-      (i : ℕ) (e : Entry)
-      → turnEntry (state o calls) i ≡ e ∷ []
+      (i : ℕ) (e : Turn)
+      → turnEntry (state o calls) i ≡ acted e ∷ []
       → (b p : ℕ)
       → (Stores e → b ≡ e .report .bucket → p ≡ e .was .held → ⊥)
       → valueAt (after (state o calls) (turn i)) b p ≡ valueAt (state o calls) b p
+  -- a retiring leaves every value as it was
+  pub retiring-spares : (i b p : ℕ) → valueAt (after (state o calls) (retire i)) b p ≡ valueAt (state o calls) b p
   -- a value is 0, as the opening left it, or a ticket that a turn stored
   pub comes-from :
       (b p : ℕ)
-      → (valueAt (state o calls) b p ≡ 0) ⊎ Some (StoresTicket (valueAt (state o calls) b p)) (trace o calls)
+      → (valueAt (state o calls) b p ≡ 0) ⊎ Some (IsTurn (StoresTicket (valueAt (state o calls) b p))) (trace o calls)
   -- where a value is not the one after some earlier calls, no slot of any bucket had it then or at any point before
   pub never-back :
       (first second third : List Call)

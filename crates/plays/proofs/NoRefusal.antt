@@ -11,7 +11,7 @@ use Rattle.mark.proofs.Choices.{by-cases}
 use Rattle.turn.specs.declared.Progress.{Progress}
 use Rattle.turn.specs.declared.Progress.the-variants.{GoesOn, Ended}
 use Rattle.sheet.specs.Line.{decimalIn, decimal, numbers}
-use Rattle.history.specs.Trace.{Entry}
+use Rattle.history.specs.Trace.{Turn, Entry, acted, retired}
 use Rattle.history.specs.Numbers.{OneOf}
 use Rattle.history.proofs.Later.{one-each}
 use Rattle.plays.specs.Plays.{lineFor, endLines, everyRefusal, EndsIn, in-totals, in-refusal, refusedBy, NeverBroken}
@@ -38,7 +38,7 @@ quiet-numbers : (ns : List ℕ) → Quiet (numbers ns)
 quiet-numbers [] = ((λ r. omega arith), tt)
 quiet-numbers (n ∷ ns) = ((λ r. omega arith), quiet-append (decimal n) (numbers ns) (quiet-decimal 20 n) (quiet-numbers ns))
 
-quiet-line : (n : ℕ) (e : Entry) (p : Progress) → Quiet (lineFor n e p)
+quiet-line : (n : ℕ) (e : Turn) (p : Progress) → Quiet (lineFor n e p)
 quiet-line n e GoesOn = tt
 quiet-line n e (Ended answer) = ((λ r. omega arith), quiet-numbers (n ∷ e .worker ∷ e .was .kind ∷ answer ∷ []))
 
@@ -46,7 +46,8 @@ quiet-line n e (Ended answer) = ((λ r. omega arith), quiet-numbers (n ∷ e .wo
 quiet-ends : (n : ℕ) (es : List Entry) → Quiet (endLines n es)
 unfolding endLines
 quiet-ends n [] = tt
-quiet-ends n (e ∷ es) = quiet-append (lineFor n e (e .report .progress)) _ (quiet-line n e (e .report .progress)) (quiet-ends (suc n) es)
+quiet-ends n (acted e ∷ es) = quiet-append (lineFor n e (e .report .progress)) _ (quiet-line n e (e .report .progress)) (quiet-ends (suc n) es)
+quiet-ends n (retired r ∷ es) = quiet-ends n es
 
 -- ---- an R in a listing
 

@@ -3,7 +3,7 @@ use Prim.Native.Nat.{ℕ, _+_, _<_}
 use mathlib.Core.Path.{_≡_, refl, sym, ap, ap₂, _∙_}
 use mathlib.Core.List.{List, [], _∷_, _++_}
 use native.Mathlib.Omega.{arith}
-use lib.ListN.{length, set, length-set, length-append}
+use lib.ListN.{set, length-set}
 use Rattle.turn.specs.declared.Worker.{Worker}
 use Rattle.turn.specs.declared.Report.{Report}
 use Rattle.turn.specs.Turn.{Answer, Refused, Done, Turned, After, after, numberOf}
@@ -18,8 +18,8 @@ use Rattle.engine.proofs.Keeps.{turn-accepted}
 use Rattle.engine.proofs.Numbers.{turn-number}
 use Rattle.engine.proofs.Tallies.{losses-lost, losses-other, changes-change, changes-other}
 use Rattle.sheet.specs.Play.{Desk, outcome, seatAt, recordOf, endedLine, turnListed, turnAtDesk}
-use Rattle.history.specs.Trace.{Entry, total}
-use Rattle.history.specs.Counts.{isLost, isChange, oneIf, countsOf}
+use Rattle.history.specs.Trace.{Turn, Entry, acted, total}
+use Rattle.history.specs.Counts.{isTurn, isLost, isChange, oneIf, turnsIn, countsOf}
 use Rattle.history.specs.History.{State, Opening, Call, turn, turnBy, turnedAs, entryOf, opened, state, trace}
 use Rattle.history.proofs.Counts.{one-is, total-append}
 use Rattle.history.proofs.Runs.{same-totals}
@@ -104,10 +104,10 @@ module _ (o : Opening) (done : List Call) (p : Point) (so : Stands o done p) (i 
   history-turn = rw (← so .stands .board, seat-same o done p so i, record-same o done p so i known) (turn-done (p .left .words) (seatAt f i) w none)
 
   -- its entry, for a worker with this record before it
-  abbrev entryFor : Worker → Entry
+  abbrev entryFor : Worker → Turn
   entryFor v = record { worker = i; was = v; report = report }
 
-  abbrev e : Entry
+  abbrev e : Turn
   e = entryFor w
 
   -- the calls with it
@@ -117,32 +117,32 @@ module _ (o : Opening) (done : List Call) (p : Point) (so : Stands o done p) (i 
   state-is : state o more ≡ turnedAs s i did
   state-is = stateFrom-then (opened o) done (turn i) ∙ ap (turnedAs s i) history-turn
 
-  trace-is : trace o more ≡ trace o done ++ (e ∷ [])
+  trace-is : trace o more ≡ trace o done ++ (acted e ∷ [])
   trace-is =
       traceFrom-then (opened o) done (turn i)
       ∙ ap (λ (x : After Turned). trace o done ++ entryOf s i (x .handed .answer)) history-turn
-      ∙ ap (λ (v : Worker). trace o done ++ (entryFor v ∷ [])) (record-same o done p so i known)
+      ∙ ap (λ (v : Worker). trace o done ++ (acted (entryFor v) ∷ [])) (record-same o done p so i known)
 
   -- a count that goes up by what the entry counts for is that of the trace
-  counts-on : (count : Entry → ℕ) (before after : ℕ) → before ≡ total count (trace o done) → after ≡ before + count e → after ≡ total count (trace o more)
+  counts-on : (count : Entry → ℕ) (before after : ℕ) → before ≡ total count (trace o done) → after ≡ before + count (acted e) → after ≡ total count (trace o more)
   unfolding total
-  counts-on count before after was now = rw trace-is (omega (arith, was, now, total-append count (trace o done) (e ∷ [])))
+  counts-on count before after was now = rw trace-is (omega (arith, was, now, total-append count (trace o done) (acted e ∷ [])))
 
   -- what the desk counted before it
   was-counted : d .totals ≡ countsOf (trace o done)
   was-counted = so .stands .totals
 
-  turns-are : d .totals .turns ≡ length (trace o done)
+  turns-are : d .totals .turns ≡ turnsIn (trace o done)
   turns-are = ap (λ (n : Totals). n .turns) was-counted
 
   -- with the turn its totals are the counts of the trace
   totals-are : t ≡ countsOf (trace o more)
   totals-are =
-      same-totals t (trace o more) (rw trace-is (omega (arith, turns-are, length-append (trace o done) (e ∷ []))))
+      same-totals t (trace o more) (counts-on (λ e. oneIf (isTurn e)) _ _ turns-are refl)
       (counts-on (λ e. oneIf (isChange e)) _ _ (ap (λ (n : Totals). n .changes) was-counted)
-      (ap (λ (n : ℕ). d .totals .changes + n) (one-is (isChange e) _ (changes-change _ _) (changes-other _ _))))
+      (ap (λ (n : ℕ). d .totals .changes + n) (one-is (isChange (acted e)) _ (changes-change _ _) (changes-other _ _))))
       (counts-on (λ e. oneIf (isLost e)) _ _ (ap (λ (n : Totals). n .lost) was-counted)
-      (ap (λ (n : ℕ). d .totals .lost + n) (one-is (isLost e) _ (losses-lost _) (losses-other _))))
+      (ap (λ (n : ℕ). d .totals .lost + n) (one-is (isLost (acted e)) _ (losses-lost _) (losses-other _))))
       (counts-on _ _ _ (ap (λ (n : Totals). n .full) was-counted) refl)
 
   -- the point after it

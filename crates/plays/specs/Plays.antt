@@ -10,21 +10,22 @@ use Rattle.turn.specs.Turn.{after}
 use Rattle.engine.specs.declared.Totals.{Totals}
 use Rattle.sheet.specs.Line.{endLine, totalsLine, refusalLine}
 use Rattle.sheet.specs.Listing.{listedIn, played}
-use Rattle.history.specs.Trace.{Entry}
+use Rattle.history.specs.Trace.{Turn, Entry, acted, retired}
 use Rattle.history.specs.Counts.{countsOf}
 use Rattle.history.specs.Numbers.{OneOf}
 use Rattle.history.specs.History.{Opening, Call, workersOf, state, trace, mostLost}
 use Rattle.plays.specs.Points.{Point, Next, goes, over, refused, nextOf, Steps, FloorAccepted, firstPoint}
 
 -- the E line of a turn that ended its call, with its number, worker, kind and answer; no line where the call goes on
-abbrev pub lineFor : ℕ → Entry → Progress → List ℕ
+abbrev pub lineFor : ℕ → Turn → Progress → List ℕ
 lineFor n e GoesOn = []
 lineFor n e (Ended answer) = endLine n (e .worker) (e .was .kind) answer
 
--- the E lines of turns that are numbered from n on
+-- the E lines of turns that are numbered from n on; a retiring is no turn, and no sheet has one
 unfoldable pub endLines : ℕ → List Entry → List ℕ
 endLines n [] = []
-endLines n (e ∷ es) = lineFor n e (e .report .progress) ++ endLines (suc n) es
+endLines n (acted e ∷ es) = lineFor n e (e .report .progress) ++ endLines (suc n) es
+endLines n (retired r ∷ es) = endLines n es
 
 -- a point stands as an opening and these calls leave it
 pub record StandsAs (o : Opening) (calls : List Call) (p : Point) : Type 0 where

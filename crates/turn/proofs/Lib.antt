@@ -8,6 +8,7 @@ pub mod OneOutcome
 pub mod Outcome
 pub mod Outcomes
 pub mod Ranges
+pub mod Retiring
 pub mod Rows
 pub mod Sound
 pub mod Stays

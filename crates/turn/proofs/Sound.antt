@@ -12,7 +12,7 @@ use Rattle.turn.specs.declared.Worker.{Worker}
 use Rattle.turn.specs.Worker.{isIdle, mayStand, ticketFits, heldFits, wordFits, fits, sound, broken}
 use Rattle.turn.specs.Bucket.{cell, markCell, spareCell, brokenBucket}
 use Rattle.turn.specs.Ready.{Ready}
-use Rattle.turn.specs.Turn.{bucketRefusal, turnRefusal}
+use Rattle.turn.specs.Turn.{busyRefusal, turnRefusal}
 use Rattle.turn.proofs.Works.{Works, works, works-filled}
 
 -- ---- records
@@ -103,12 +103,12 @@ pub record Accepted (b : List ℕ) (w : Worker) : Type 0 where
   pub whole : Whole b
   pub busy : isIdle w ≡ false
 
--- the number of refusal by the test that an accepted turn passes first
-pub by-soundness : (b : List ℕ) (w : Worker) (x : ℕ) → x ≡ cond (sound w) (bucketRefusal b) (cond (isIdle w) 6 3) → x ≡ turnRefusal b w
-unfolding turnRefusal broken
-by-soundness b w x e = e ∙ by-cases (λ (n : ℕ). n ≡ turnRefusal b w) (sound w) _ _
+-- the number of refusal by the test that nearly every record passes first
+pub by-soundness : (w : Worker) (follows x : ℕ) → x ≡ cond (sound w) follows (cond (isIdle w) 6 3) → x ≡ busyRefusal w follows
+unfolding broken
+by-soundness w follows x e = e ∙ by-cases (λ (n : ℕ). n ≡ busyRefusal w follows) (sound w) _ _
     (λ is. rw (is, sound-busy w (sound-parts w is)))
-    (λ isnot. by-cases (λ (n : ℕ). n ≡ turnRefusal b w) (isIdle w) _ _ (λ idle. rw idle) (λ busy. rw (busy, isnot)))
+    (λ isnot. by-cases (λ (n : ℕ). n ≡ busyRefusal w follows) (isIdle w) _ _ (λ idle. rw idle) (λ busy. rw (busy, isnot)))
 
 -- that is a turn with no number of refusal
 pub accepted : (b : List ℕ) (w : Worker) → turnRefusal b w ≡ 0 → Accepted b w

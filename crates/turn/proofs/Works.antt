@@ -125,6 +125,15 @@ module _ (k p h : ℕ) where
   works-filled (beginning kind place held) from to = absurd (omega arith)
   works-filled (removing kind low high held) from to = absurd (omega arith)
 
+  -- what holds a slot is an insert
+  pub works-holder : Works k p h → (h ≡ 3 → ⊥) → (k ≡ 2) × (h ≤ 2)
+  works-holder (looking kind from to held) some = absurd (some held)
+  works-holder (inserting kind from to held) some = (kind, omega arith)
+  works-holder (claiming kind place held) some = absurd (some held)
+  works-holder (filling kind from to held) some = (kind, held)
+  works-holder (beginning kind place held) some = absurd (some held)
+  works-holder (removing kind from to held) some = absurd (some held)
+
 -- ---- what is shown of each of n places from lo on
 
 abbrev pub From : (ℕ → Type 0) → ℕ → ℕ → Type 0

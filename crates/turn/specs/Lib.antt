@@ -4,3 +4,4 @@ pub mod Places
 pub mod Ready
 pub mod Turn
 pub mod Effects
+pub mod Retire

@@ -18,9 +18,13 @@ use Rattle.turn.specs.Places.{Step, turn}
 abbrev pub bucketRefusal : List ℕ → ℕ
 bucketRefusal b = cond (brokenBucket b) 7 0
 
--- §6.3, §6.6, §7.2: a broken record, an idle worker, a broken bucket; 0 where it is none of them
+-- §6.3, §6.6: 3 for a broken record and 6 for an idle one, or what follows for a busy one
+abbrev pub busyRefusal : Worker → ℕ → ℕ
+busyRefusal w follows = cond (broken w) 3 (cond (isIdle w) 6 follows)
+
+-- §7.2: a broken record, an idle worker, a broken bucket; 0 where it is none of them
 unfoldable pub turnRefusal : List ℕ → Worker → ℕ
-turnRefusal b w = cond (broken w) 3 (cond (isIdle w) 6 (bucketRefusal b))
+turnRefusal b w = busyRefusal w (bucketRefusal b)
 
 -- a turn's answer: refused with its number alone, or done with its report
 pub data Answer : Type 0 where

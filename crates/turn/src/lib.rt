@@ -5,6 +5,7 @@ ghost use Rattle.turn.specs.Turn.{bucketRefusal, turnRefusal, after, noR
 pub mod refusal; // the numbers
 pub mod record; // idle, started and broken records
 pub mod bucket; // broken buckets
+pub mod retire; // a worker that will not return
 mod place; // the place table
 
 // §3.2: what a worker is at. Widest fields first, so that there is no padding to copy around.
@@ -64,6 +65,12 @@ pub struct Said {
 pub struct Tried {
     pub worker: Worker,
     pub said: Said,
+}
+
+// What a retiring hands back: the record as it now stands, and the number of refusal, or 0.
+pub struct Retired {
+    pub worker: Worker,
+    pub refusal: u8,
 }
 
 // §7.2: the number of refusal, or 0. A sound record is not idle, so the test that nearly every turn passes comes first.

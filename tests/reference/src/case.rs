@@ -13,9 +13,10 @@ pub const RUN: u8 = 5;
 pub const SHOW: u8 = 6;
 pub const COUNT: u8 = 7;
 pub const ORDERS: u8 = 8;
+pub const RETIRE: u8 = 9;
 
-pub const NAMES: [&str; 9] = [
-    "open", "look", "insert", "remove", "turn", "run", "show", "count", "orders",
+pub const NAMES: [&str; 10] = [
+    "open", "look", "insert", "remove", "turn", "run", "show", "count", "orders", "retire",
 ];
 
 /// A board of more words counts as one of so many.

@@ -9,6 +9,7 @@ mod places;
 mod ranges;
 mod refusals;
 mod reports;
+mod retire;
 
 use crate::case::{with_length, Case};
 use crate::random::Random;
@@ -43,6 +44,7 @@ fn round(seed: u64) -> Bodies {
     ranges::make(&mut bodies);
     reports::make(&mut bodies);
     orders::make(&mut bodies);
+    retire::make(&mut bodies);
     loose::make(&mut bodies);
     bodies
 }

@@ -7,6 +7,7 @@ mod points;
 mod ranges;
 mod refusals;
 mod reports;
+mod retire;
 
 use crate::case::Case;
 use crate::outcome::Outcome;
@@ -39,6 +40,7 @@ impl Coverage {
         ranges::see(case, outcome, &mut met);
         reports::see(case, outcome, &mut met);
         orders::see(case, outcome, &mut met);
+        retire::see(case, outcome, &mut met);
         met.sort();
         met.dedup();
         for point in met {

@@ -3,9 +3,9 @@
 use crate::call::Call;
 use crate::memory::{Board, Bucket, BUCKET_WORDS};
 use crate::orders::{Walking, Walks};
-use crate::record::{Record, INSERT};
+use crate::record::{Record, INSERT, NONE};
 use crate::report::{Ran, Report};
-use crate::word::{Snapshot, MAP_INVLD, MAP_VALID};
+use crate::word::{snap_set_map_and_inc_version, Snapshot, MAP_INVLD, MAP_VALID};
 
 /// A number of refusal.
 pub type Refusal = u8;
@@ -175,6 +175,33 @@ impl Desk {
             }
         }
         (0, ran)
+    }
+
+    /// Item 7 of the second document; refused as §7.2 has it. The call is dropped where it stands, and no turn tells of it.
+    pub fn retire(&mut self, worker: u64) -> Result<(), Refusal> {
+        self.measure(self.floor.workers, self.floor.buckets, true)?;
+        let at = self.sound_worker(worker)?;
+        let record = self.list.records[at];
+        if record.is_idle() {
+            return Err(6);
+        }
+        if record.held != NONE {
+            self.free(self.bucket_of(record.key), record.held)?;
+        }
+        self.list.records[at] = Record::idle();
+        self.keep(at, None);
+        Ok(())
+    }
+
+    /// Takes a retired worker's mark away, whichever it is, and counts the version on in the same act. The word is the one that stands:
+    /// what the worker had in mind does not matter.
+    fn free(&self, bucket: Bucket, held: u8) -> Result<(), Refusal> {
+        if bucket.is_broken() {
+            return Err(7);
+        }
+        let freed = snap_set_map_and_inc_version(bucket.snapshot(), held, MAP_INVLD);
+        bucket.set_snapshot(freed);
+        Ok(())
     }
 
     /// §2.8: where the lot's bucket starts on the board, and its words.

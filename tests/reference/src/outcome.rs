@@ -9,7 +9,7 @@ use std::fmt::Write;
 
 #[derive(Clone, Debug, PartialEq, Eq)]
 pub enum Answer {
-    /// An opening or a start.
+    /// An opening, a start or a retiring.
     Alone(Result<(), Refusal>),
     Turn(Result<Report, Refusal>),
     Run(Refusal, Ran),
@@ -86,7 +86,8 @@ fn call(case: &Case, desk: &mut Desk, told: &mut Vec<Told>) -> Answer {
         }
         case::SHOW => Answer::Show(desk.show(lot)),
         case::COUNT => Answer::Count(desk.count()),
-        _ => Answer::Orders(desk.orders(worker)),
+        case::ORDERS => Answer::Orders(desk.orders(worker)),
+        _ => Answer::Alone(desk.retire(worker)),
     }
 }
 

@@ -1,6 +1,6 @@
 //! A worker's record: the eight fields, what is idle and what is broken.
 
-use crate::word::{Snapshot, KEY_BUCKT};
+use crate::word::{snap_set_map, Snapshot, KEY_BUCKT, MAP_INSRT};
 
 pub const IDLE: u8 = 0;
 pub const LOOK: u8 = 1;
@@ -39,6 +39,11 @@ impl Record {
 
     pub fn is_idle(&self) -> bool {
         *self == Record::idle()
+    }
+
+    /// The mark word that the commit of a sound insert expects, if it holds a slot.
+    pub fn commit_expects(&self) -> Option<u64> {
+        (self.held != NONE).then(|| snap_set_map(self.word, self.held, MAP_INSRT))
     }
 
     /// §3.7.

@@ -1,9 +1,9 @@
 //! Cases: written and read back, the lines of the format's own examples, and the stored ones as a whole.
 
-use reference::case::{pieces, with_length, Case};
+use reference::case::{pieces, with_length, Case, RETIRE};
 use reference::desk::{Floor, List};
 use reference::outcome::{line, lines, outcome, Answer};
-use reference::record::{Record, INSERT, LOOK};
+use reference::record::{Record, INSERT, LOOK, NONE};
 use reference::{cases, store};
 
 fn read_back(case: &Case) -> Case {
@@ -52,7 +52,8 @@ fn missing_bytes_are_0() {
         turns: vec![],
     };
     assert_eq!(Case::read(&[]), empty);
-    assert_eq!(Case::read(&[9]), empty);
+    assert_eq!(Case::read(&[10]), empty);
+    assert_eq!(Case::read(&[19]).call, RETIRE);
     let words = Case::read(&[0, 0, 0, 0, 0, 0, 0, 3, 0, 5]);
     assert_eq!(words.board, vec![5, 0, 0]);
 }
@@ -165,6 +166,18 @@ fn lines_of_the_format() {
         line_of(&orders),
         "orders 0 39c 0 0 0 | 2 1 0 | 0*8 | 1.2.7.0.0.0.3.0*2\n"
     );
+    let retire = Case {
+        call: RETIRE,
+        ..turn
+    };
+    assert_eq!(
+        line_of(&retire),
+        "retire 0 | 1 1 1 | 1 7 0*2 1 0*3 | 0.0.0.0.0.0.3.0\n"
+    );
+    assert_eq!(
+        line_of(&opened(9, 1)),
+        "retire 6 | 1 1 0 | 0*8 | 0.0.0.0.0.0.3.0\n"
+    );
 }
 
 #[test]
@@ -178,6 +191,37 @@ fn a_refused_call_changes_nothing() {
             assert_eq!(came.records, case.list.records);
         }
     }
+}
+
+/// What a retiring leaves, told once more by sums of powers of two: one record is idle, and of the board only the mark word of a held slot
+/// is another, with no mark there and one more in the version.
+#[test]
+fn a_retiring_leaves_all_else() {
+    let (mut holding, mut others) = (0, 0);
+    for piece in cases::stored() {
+        let case = Case::read(&piece[2..]);
+        let came = outcome(&case);
+        if case.call != RETIRE || came.answer.number() != 0 {
+            continue;
+        }
+        let worker = case.worker as usize;
+        let (mut board, mut records) = (case.board, case.list.records);
+        let Record { key, held, .. } = records[worker];
+        if held == NONE {
+            others += 1;
+        } else {
+            let word = &mut board[8 * (key % case.floor.buckets) as usize];
+            let power = 1 << (32 + 8 * held);
+            *word -= *word / power % 256 * power;
+            let version = *word % (1 << 32);
+            *word = *word - version + (version + 1) % (1 << 32);
+            holding += 1;
+        }
+        records[worker] = Record::idle();
+        assert_eq!((came.board, came.records), (board, records));
+        assert_eq!(came.floor, case.floor);
+    }
+    assert!(holding > 200 && others > 100);
 }
 
 /// Of every turn, and of the last of every run: the bucket is the lot's, and the words are those of the board on either side of the turn.
@@ -215,8 +259,8 @@ fn the_stored_cases_meet_every_point() {
     assert_eq!(stored.coverage.unmet(), Vec::<String>::new());
     assert_eq!(lines(&stored.stream), stored.lines);
     assert!(stored.lines.lines().count() >= 5_000);
-    // a mebibyte and a quarter
-    assert!(stored.stream.len() + stored.lines.len() < 5 << 18);
+    // a mebibyte and three eighths
+    assert!(stored.stream.len() + stored.lines.len() < 11 << 17);
 }
 
 #[test]

@@ -1,5 +1,5 @@
-//! The whole board as one clerk (item 5 of the second document), tried by running random histories of opened boards; and wrong engines,
-//! on which the same checks fail.
+//! The whole board as one clerk (item 5 of the second document), tried by running random histories of opened boards, with retirings (item
+//! 7) anywhere in them; and wrong engines, on which the same checks fail.
 
 #[path = "clerk/checks.rs"]
 mod checks;
@@ -14,7 +14,7 @@ mod stories;
 
 use checks::{play, play_overlooking, Check, Failure};
 use engines::{Engine, Flaw};
-use points::POINTS;
+use points::points;
 use schedules::Event::{self, *};
 use schedules::{any_schedule, Schedule};
 use std::collections::BTreeSet;
@@ -50,7 +50,7 @@ fn in_random_histories() {
         }
     }
     println!("{HISTORIES} histories, {turns} turns, {ended} ended calls");
-    assert_eq!(met, BTreeSet::from(POINTS));
+    assert_eq!(met, points());
 }
 
 /// So a wrong engine is wrong by its mistake alone.
@@ -72,14 +72,23 @@ fn wrong_engines_fail_in_random_histories() {
         (Flaw::KeyFirst, &[Check::NoMoment]),
         (
             Flaw::BlindSwap,
-            &[Check::WonAnswer, Check::TwoSlots, Check::List, Check::Held],
+            &[
+                Check::WonAnswer,
+                Check::TwoSlots,
+                Check::List,
+                Check::Held,
+                Check::Again,
+            ],
         ),
         (Flaw::ForgetsHeld, &[Check::Held]),
+        (Flaw::LeavesMark, &[Check::Held]),
+        (Flaw::LeavesVersion, &[Check::Again]),
+        (Flaw::WritesOwnWord, &[Check::List, Check::Held]),
     ] {
         let mut missing = BTreeSet::from_iter(checks.iter().copied());
         for seed in 0..HISTORIES {
             if let Err(failure) = play(wrong(flaw), &any_schedule(seed)) {
-                assert!(checks.contains(&failure.check));
+                assert!(checks.contains(&failure.check), "{flaw:?}: {failure:?}");
                 missing.remove(&failure.check);
             }
             if missing.is_empty() {
@@ -91,13 +100,18 @@ fn wrong_engines_fail_in_random_histories() {
     }
 }
 
-/// A slot that is lost for good is all that this mistake does.
+/// A slot that is lost for good is all that two of these mistakes do, and a word that stands again all that the third does.
 #[test]
-fn forgetting_a_slot_makes_no_answer_wrong() {
-    let engine = wrong(Flaw::ForgetsHeld);
-    for seed in 0..2_000 {
-        let played = play_overlooking(Some(Check::Held), engine, &any_schedule(seed));
-        assert!(played.is_ok());
+fn mistakes_that_make_no_answer_wrong() {
+    for (flaw, overlooked) in [
+        (Flaw::ForgetsHeld, Check::Held),
+        (Flaw::LeavesMark, Check::Held),
+        (Flaw::LeavesVersion, Check::Again),
+    ] {
+        for seed in 0..2_000 {
+            let played = play_overlooking(Some(overlooked), wrong(flaw), &any_schedule(seed));
+            assert!(played.is_ok());
+        }
     }
 }
 

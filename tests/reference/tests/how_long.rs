@@ -1,10 +1,11 @@
 //! How many turns a call can last, tried by running: a look beside anything at all, a remove and an insert of a worker who is alone. Alone
-//! means that from the start of the call to its end nobody else has a turn; the others stand wherever they were stopped, and may even start
-//! calls. On code that lives and on code made anew from the records.
+//! means that from the start of the call to its end nobody else has a turn, and nobody is retired who holds a slot; the others stand
+//! wherever they were stopped, may even start calls, and are retired where they hold nothing. On code that lives and on code made anew from
+//! the records.
 
 use reference::desk::{Desk, Manner};
 use reference::random::Random;
-use reference::record::{INSERT, LOOK, REMOVE};
+use reference::record::{INSERT, LOOK, NONE, REMOVE};
 use reference::report::Report;
 use reference::word::{Snapshot, MAP_INVLD, MAP_VALID};
 use std::collections::BTreeSet;
@@ -20,7 +21,7 @@ const REMOVE_TURNS: [usize; 3] = [4, 5, 6];
 const INSERT_TURNS: [usize; 8] = [5, 7, 8, 9, 10, 11, 12, 13];
 
 /// After so many turns alone an insert is taken for one that goes round for ever.
-const LONG: usize = 1_000;
+const LONG: usize = 300;
 
 /// The mark word and three other lots.
 const LONGEST_ROUND: usize = 1 + 3 * 3;
@@ -107,7 +108,14 @@ impl Room {
         }
     }
 
-    /// So many times a worker is chosen, who may start a call if idle, and if busy then has some turns in a row.
+    /// A busy worker is retired, which nothing refuses.
+    fn retire(&mut self, worker: u64) {
+        assert_eq!(self.desk.retire(worker), Ok(()));
+        assert!(self.is_idle(worker));
+    }
+
+    /// So many times a worker is chosen, who may start a call if idle, and if busy then has some turns in a row, and may be retired after
+    /// them.
     fn make_history(&mut self, length: usize) {
         for _ in 0..length {
             let worker = self.random.below(self.desk.floor.workers);
@@ -118,6 +126,9 @@ impl Room {
                 if !self.is_idle(worker) {
                     self.turn(worker);
                 }
+            }
+            if !self.is_idle(worker) && self.random.once_in(12) {
+                self.retire(worker);
             }
         }
     }
@@ -156,12 +167,17 @@ impl Room {
         (0..3).any(|slot| marks[slot] == MAP_INVLD || marks[slot] == MAP_VALID && keys[slot] == lot)
     }
 
-    /// A turn of a worker who is alone, before which another may start a call.
+    /// A turn of a worker who is alone, before which another may start a call, or be retired if it holds nothing.
     fn turn_alone(&mut self, worker: u64) -> Report {
         if self.random.once_in(8) {
             if let Some(other) = self.any_idle_worker() {
                 self.start_any_call(other);
             }
+        }
+        let other = self.random.below(self.desk.floor.workers);
+        let holds_nothing = self.desk.list.records[other as usize].held == NONE;
+        if other != worker && !self.is_idle(other) && holds_nothing && self.random.once_in(4) {
+            self.retire(other);
         }
         self.turn(worker)
     }
@@ -288,5 +304,60 @@ fn the_figures_themselves() {
         ] {
             assert_eq!(turns_of(&mut desk, kind, lot), Some(turns));
         }
+    });
+}
+
+/// A desk of two on one bucket, on which lots 7 and 8 stand and worker 1 holds the third slot.
+fn with_a_holder(manner: Manner) -> Desk {
+    let mut desk = Desk::opened(2, 1, 0, manner).unwrap();
+    for lot in [7, 8] {
+        assert!(turns_of(&mut desk, INSERT, lot).is_some());
+    }
+    let ticket = desk.floor.last_ticket + 1;
+    desk.start(INSERT, 1, 9, ticket).unwrap();
+    while desk.list.records[1].held == NONE {
+        desk.turn(1).unwrap();
+    }
+    desk
+}
+
+/// The turn that ends the call of worker 0, if worker 1, who holds a slot, is retired before this one.
+fn turns_with_a_retiring(desk: &mut Desk, before: usize) -> Option<usize> {
+    (1..=LONG).find(|&turn| {
+        if turn == before {
+            desk.retire(1).unwrap();
+        }
+        desk.turn(0).unwrap().ended.is_some()
+    })
+}
+
+/// A held slot that is freed is a change by the one who held it (§11.3): whoever meets it is not alone, and can need longer. A remove's
+/// swap at its fifth turn is lost, and it begins again.
+#[test]
+fn a_retiring_with_a_held_slot_can_make_a_swap_lose() {
+    on_both(|manner| {
+        for (before, turns) in [(1, 5), (2, 10), (5, 10), (6, 5)] {
+            let mut desk = with_a_holder(manner);
+            desk.start(REMOVE, 0, 8, 0).unwrap();
+            assert_eq!(turns_with_a_retiring(&mut desk, before), Some(turns));
+        }
+    });
+}
+
+/// While the holder is dead the bucket has two slots, and an insert of a third lot goes round and round. It ends once the slot is freed.
+#[test]
+fn an_insert_that_waits_for_a_dead_container() {
+    on_both(|manner| {
+        let mut desk = with_a_holder(manner);
+        let ticket = desk.floor.last_ticket + 1;
+        desk.start(INSERT, 0, 10, ticket).unwrap();
+        // the mark word, two other lots, and a slot that is being inserted
+        let round = 1 + 3 + 3 + 2;
+        for turn in 1..=20 * round {
+            let report = desk.turn(0).unwrap();
+            assert_eq!(report.full_round, turn % round == 0);
+        }
+        assert_eq!(turns_with_a_retiring(&mut desk, 1), Some(round + 4));
+        assert_eq!(desk.count(), Ok(3));
     });
 }

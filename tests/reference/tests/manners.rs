@@ -13,8 +13,11 @@ fn assert_same(one: &Desk, other: &Desk) {
     assert_eq!(one.list, other.list);
 }
 
-/// One random history on two desks; the places that were met.
-fn history(seed: u64, met: &mut BTreeSet<(u8, u8)>) {
+/// The kinds and places of calls.
+type Places = BTreeSet<(u8, u8)>;
+
+/// One random history on two desks; the places that were met, and those from which somebody was retired.
+fn history(seed: u64, met: &mut Places, retired: &mut Places) {
     let mut random = Random::new(seed);
     let (w, n) = (1 + random.below(4), 1 + random.below(2));
     let version = random.any() as u32;
@@ -34,6 +37,11 @@ fn history(seed: u64, met: &mut BTreeSet<(u8, u8)>) {
             met.insert((record.kind, record.place));
             assert_eq!(living.turn(worker), remade.turn(worker));
         }
+        if random.once_in(6) {
+            let record = living.list.records[worker as usize];
+            retired.insert((record.kind, record.place));
+            assert_eq!(living.retire(worker), remade.retire(worker));
+        }
         assert_same(&living, &remade);
         assert!(!living.list.records.iter().any(|record| record.is_broken()));
         assert!(living.count().is_ok());
@@ -42,12 +50,13 @@ fn history(seed: u64, met: &mut BTreeSet<(u8, u8)>) {
 
 #[test]
 fn on_random_histories() {
-    let mut met = BTreeSet::new();
-    for seed in 0..300 {
-        history(seed, &mut met);
+    let (mut met, mut retired) = (BTreeSet::new(), BTreeSet::new());
+    for seed in 0..600 {
+        history(seed, &mut met, &mut retired);
     }
-    // idle, four places of a look, ten of an insert, four of a remove
+    // idle, which is refused, four places of a look, ten of an insert, four of a remove
     assert_eq!(met.len(), 1 + 4 + 10 + 4);
+    assert_eq!(retired, met);
 }
 
 #[test]

@@ -105,7 +105,7 @@ fn two_removes_of_one_lot() {
     assert_eq!(one_by_one(&desk, 24).counts, [70, 0, 68, 1]);
 }
 
-/// Calls at any places, to which a history of an opened board has led.
+/// Calls at any places, to which a history of an opened board has led; workers may have been retired in it.
 fn any_history(random: &mut Random) -> Desk {
     let workers = 1 + random.below(3);
     let version = random.pick(&[0, u32::MAX - 1, u32::MAX]);
@@ -117,6 +117,10 @@ fn any_history(random: &mut Random) -> Desk {
         let _ = desk.start(kind, worker, lot, ticket);
         let turns = random.below(14);
         (0..turns).take_while(|_| desk.turn(worker).is_ok()).count();
+        if random.once_in(6) {
+            // refused where the worker is idle
+            let _ = desk.retire(worker);
+        }
     }
     desk
 }

@@ -2,16 +2,16 @@
 
 use super::build::{places, set_bucket};
 use super::Bodies;
-use crate::case::{COUNT, INSERT, LOOK, ORDERS, REMOVE, RUN, SHOW, TURN};
+use crate::case::{COUNT, INSERT, LOOK, ORDERS, REMOVE, RETIRE, RUN, SHOW, TURN};
 use crate::memory::BUCKET_WORDS;
 use crate::random::Random;
-use crate::record::Record;
+use crate::record::{Record, NONE};
 use crate::word::Snapshot;
 
 pub fn make(bodies: &mut Bodies) {
     for record in broken_records(&mut bodies.random) {
         let start = bodies.random.pick(&[LOOK, INSERT, REMOVE]);
-        for call in [start, TURN, RUN, ORDERS] {
+        for call in [start, TURN, RUN, ORDERS, RETIRE] {
             with_record(bodies, call, record);
         }
     }
@@ -20,9 +20,10 @@ pub fn make(bodies: &mut Bodies) {
     }
     for n in [1, 2, 3] {
         for spoil in BUCKETS {
-            for call in [TURN, RUN, SHOW, COUNT] {
+            for call in [TURN, RUN, SHOW, COUNT, RETIRE] {
                 with_bucket(bodies, call, n, spoil);
             }
+            under_nothing_held(bodies, n, spoil);
         }
     }
     elsewhere(bodies);
@@ -221,8 +222,11 @@ impl Spoil {
 /// A case whose bucket is broken in this way, and no other bucket.
 fn with_bucket(bodies: &mut Bodies, call: u8, n: u64, spoil: Spoil) {
     let mut case = bodies.random.sound_sized(call, 1, n);
+    if call == RETIRE {
+        case.list.records[0] = bodies.random.holding_record();
+    }
     let lot = match call {
-        TURN | RUN => case.list.records[0].key,
+        TURN | RUN | RETIRE => case.list.records[0].key,
         _ => case.lot,
     };
     let bucket = spoil.bucket(&mut bodies.random);
@@ -230,13 +234,29 @@ fn with_bucket(bodies: &mut Bodies, call: u8, n: u64, spoil: Spoil) {
     bodies.push(case);
 }
 
+/// A worker that holds nothing is retired, whose lot's bucket is broken in this way.
+fn under_nothing_held(bodies: &mut Bodies, n: u64, spoil: Spoil) {
+    let mut case = bodies.random.sound_sized(RETIRE, 1, n);
+    let kind = bodies.random.busy_kind();
+    // of an insert some of those places at which it may hold nothing
+    let place = bodies.random.pick(&places(kind)[..4]);
+    let record = Record {
+        held: NONE,
+        ..bodies.random.record(kind, place)
+    };
+    case.list.records[0] = record;
+    let bucket = spoil.bucket(&mut bodies.random);
+    set_bucket(&mut case, record.key, bucket);
+    bodies.push(case);
+}
+
 /// What is broken in another bucket or another record, which matters to a count alone.
 fn elsewhere(bodies: &mut Bodies) {
     for spoil in BUCKETS {
-        for call in [LOOK, INSERT, REMOVE, TURN, RUN, SHOW, COUNT] {
+        for call in [LOOK, INSERT, REMOVE, TURN, RUN, SHOW, COUNT, RETIRE] {
             let mut case = bodies.random.sound_sized(call, 2, 2);
             let own = match call {
-                TURN | RUN => case.list.records[case.worker as usize].key,
+                TURN | RUN | RETIRE => case.list.records[case.worker as usize].key,
                 // a start does not look at the bucket at all
                 LOOK | INSERT | REMOVE => case.lot.wrapping_add(bodies.random.below(2)),
                 _ => case.lot,

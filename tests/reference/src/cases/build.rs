@@ -102,6 +102,14 @@ impl Random {
         self.record(kind, place)
     }
 
+    /// A sound record of an insert that holds a slot.
+    pub fn holding_record(&mut self) -> Record {
+        let place = self.pick(&[1, 2, 3, 4, 5, 7, 8, 9, 10]);
+        let record = self.record(INSERT, place);
+        let held = self.slot();
+        Record { held, ..record }
+    }
+
     pub fn ticket(&mut self) -> u32 {
         if self.once_in(16) {
             return u32::MAX;
@@ -174,7 +182,7 @@ impl Random {
                 case.list.records[worker] = Record::idle();
                 case.ticket = case.floor.last_ticket + 1 + self.below(3) as u32;
             }
-            case::TURN | case::RUN => {
+            case::TURN | case::RUN | case::RETIRE => {
                 case.list.records[worker] = self.any_record();
                 case.turns = vec![worker as u8; 1];
             }

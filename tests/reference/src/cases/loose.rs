@@ -3,11 +3,11 @@
 use super::build::EDGES;
 use super::length::shorten;
 use super::Bodies;
-use crate::case::{Case, COUNT, INSERT, LOOK, OPEN, ORDERS, REMOVE, RUN, SHOW, TURN};
+use crate::case::{Case, COUNT, INSERT, LOOK, OPEN, ORDERS, REMOVE, RETIRE, RUN, SHOW, TURN};
 use crate::desk::{Floor, List};
 use crate::outcome::outcome;
 use crate::random::Random;
-use crate::record::Record;
+use crate::record::{Record, NONE};
 
 const HISTORIES: usize = 50;
 const STEPS: u64 = 40;
@@ -69,18 +69,22 @@ fn opening(random: &mut Random) -> Case {
     }
 }
 
-/// Chooses what is called next: mostly a turn of a worker that is busy, or a start of one that is idle.
+/// Chooses what is called next: mostly a turn of a worker that is busy, or a start of one that is idle. Who holds a slot is retired at
+/// times, and who holds none is seldom.
 fn next_call(random: &mut Random, case: &mut Case, lots: &[u64]) {
     let w = case.floor.workers;
     case.turns.clear();
     case.worker = random.below(w);
     case.lot = random.pick(lots);
     case.ticket = case.floor.last_ticket.saturating_add(1);
-    let idle = case.list.records[case.worker as usize].is_idle();
+    let record = case.list.records[case.worker as usize];
+    let idle = record.is_idle();
     case.call = match random.below(40) {
         0 => SHOW,
         1 => random.pick(&[COUNT, ORDERS]),
-        2 => random.pick(&[LOOK, INSERT, REMOVE, TURN]),
+        2 => random.pick(&[LOOK, INSERT, REMOVE, TURN, RETIRE]),
+        8 | 9 if record.held != NONE => RETIRE,
+        8 if !idle && random.once_in(4) => RETIRE,
         3..=7 => RUN,
         _ if idle => random.pick(&[LOOK, INSERT, INSERT, INSERT, REMOVE]),
         _ => TURN,
@@ -107,6 +111,7 @@ fn next_call(random: &mut Random, case: &mut Case, lots: &[u64]) {
 fn spoilt(random: &mut Random) -> Case {
     let call = random.pick(&[
         OPEN, LOOK, INSERT, REMOVE, TURN, TURN, TURN, TURN, TURN, RUN, RUN, SHOW, COUNT, ORDERS,
+        RETIRE, RETIRE,
     ]);
     let mut case = random.sound(call);
     let edge = random.pick(&EDGES);
@@ -186,9 +191,9 @@ fn row(random: &mut Random, below: u64) -> Vec<u8> {
     (0..length).map(|_| random.below(below) as u8).collect()
 }
 
-/// A turn, a run or all orders on one worker and one bucket, all else of small bytes, so that it is often sound.
+/// A turn, a run, a retiring or all orders on one worker and one bucket, all else of small bytes, so that it is often sound.
 fn likely(random: &mut Random) -> Vec<u8> {
-    let call = random.pick(&[TURN, TURN, RUN, RUN, ORDERS]);
+    let call = random.pick(&[TURN, TURN, RUN, RUN, ORDERS, RETIRE]);
     let worker = match call {
         ORDERS => random.below(26) as u8,
         _ => 0,

@@ -7,9 +7,10 @@ use crate::case::{Case, ORDERS};
 use crate::desk::{Desk, Manner, MOST_DEPTH, SMALL_WORKERS};
 use crate::memory::BUCKET_WORDS;
 use crate::outcome::brought;
-use crate::record::{Record, INSERT, LOOK, REMOVE};
+use crate::record::{Record, IDLE, INSERT, LOOK, REMOVE};
 
 /// A worker; the kind and the lot of a call, which it starts if it is idle; and how many turns it has then, unless its call ends before.
+/// Where the kind is that of an idle worker, it is retired instead.
 type Event = (u64, u8, u64, usize);
 
 /// As many turns as an insert or a remove needs that is alone and finds room (§15).
@@ -128,6 +129,11 @@ fn class(bodies: &mut Bodies, w: u64, events: &[Event]) -> Case {
     let mut desk =
         Desk::opened(w, 1, random.version(), Manner::Remade).expect("a floor of small sizes");
     for &(worker, kind, lot, turns) in events {
+        if kind == IDLE {
+            // refused where the worker is idle already
+            let _ = desk.retire(worker);
+            continue;
+        }
         let ticket = desk.floor.last_ticket + 1;
         // refused where the worker is still at a call; it goes on with that
         let _ = desk.start(kind, worker, lot, ticket);
@@ -301,7 +307,7 @@ fn any_class(bodies: &mut Bodies) {
     let w = 1 + random.below(SMALL_WORKERS);
     let mut events = FULL[..random.below(4) as usize].to_vec();
     for _ in 0..random.below(7) {
-        let kind = random.pick(&[LOOK, INSERT, INSERT, REMOVE]);
+        let kind = random.pick(&[LOOK, INSERT, INSERT, INSERT, REMOVE, IDLE]);
         let lot = random.pick(&[7, 7, 8, 9, 0, u64::MAX]);
         let turns = random.below(WHOLE as u64) as usize;
         events.push((random.below(w), kind, lot, turns));

@@ -2,14 +2,14 @@
 
 use super::build::{mark_word, set_bucket};
 use super::Bodies;
-use crate::case::{self, Case, COUNT, INSERT, LOOK, OPEN, ORDERS, REMOVE, RUN, SHOW, TURN};
+use crate::case::{self, Case, COUNT, INSERT, LOOK, OPEN, REMOVE, RETIRE, RUN, SHOW, TURN};
 use crate::memory::BUCKET_WORDS;
 use crate::outcome::outcome;
 use crate::record::Record;
 
 pub fn make(bodies: &mut Bodies) {
     // for all orders only the first of these sizes is a small class
-    for call in OPEN..=ORDERS {
+    for call in OPEN..=RETIRE {
         for (w, n) in [(1, 1), (64, 1), (1, 256), (64, 256)] {
             let case = bodies.random.sound_sized(call, w, n);
             bodies.push(case);
@@ -27,7 +27,7 @@ pub fn make(bodies: &mut Bodies) {
 }
 
 fn workers(bodies: &mut Bodies) {
-    for call in [LOOK, INSERT, REMOVE, TURN] {
+    for call in [LOOK, INSERT, REMOVE, TURN, RETIRE] {
         for w in [1, 2, 63, 64] {
             for worker in [0, w - 1, w, 63, 64, 255, 256, 1 << 32, u64::MAX] {
                 let mut case = bodies.random.sound_sized(call, w, 1);
@@ -64,11 +64,11 @@ fn workers(bodies: &mut Bodies) {
 
 fn lots(bodies: &mut Bodies) {
     for n in [1, 2, 3, 256] {
-        for call in [LOOK, INSERT, REMOVE, TURN, SHOW] {
+        for call in [LOOK, INSERT, REMOVE, TURN, SHOW, RETIRE] {
             for lot in [0, n - 1, n, u64::MAX] {
                 let mut case = bodies.random.sound_sized(call, 1, n);
                 case.lot = lot;
-                if call == TURN {
+                if matches!(call, TURN | RETIRE) {
                     case.list.records[0].key = lot;
                 }
                 if !matches!(call, LOOK | INSERT | REMOVE) {
@@ -83,7 +83,7 @@ fn lots(bodies: &mut Bodies) {
 
 /// Lots of any size, on boards of any number of buckets.
 fn any_lots(bodies: &mut Bodies) {
-    for call in [TURN, SHOW] {
+    for call in [TURN, SHOW, RETIRE] {
         for n in [3, 5, 7, 100, 255, 256] {
             let mut case = bodies.random.sound_sized(call, 1, n);
             case.lot = bodies.random.any();

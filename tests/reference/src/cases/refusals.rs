@@ -2,13 +2,13 @@
 
 use super::build::{set_buckets, set_list, set_workers};
 use super::Bodies;
-use crate::case::{self, Case, COUNT, INSERT, LOOK, OPEN, ORDERS, REMOVE, RUN, SHOW, TURN};
+use crate::case::{self, Case, COUNT, INSERT, LOOK, OPEN, REMOVE, RETIRE, RUN, SHOW, TURN};
 use crate::memory::BUCKET_WORDS;
 use crate::random::Random;
 use crate::record::Record;
 
 pub fn make(bodies: &mut Bodies) {
-    for call in OPEN..=ORDERS {
+    for call in OPEN..=RETIRE {
         accepted(bodies, call);
         causes_of_1(bodies, call);
         large_boards(bodies, call);
@@ -96,7 +96,7 @@ pub fn broken_record(random: &mut Random) -> Record {
 }
 
 /// The bucket of the worker's lot is broken.
-fn break_bucket(case: &mut Case, lot: u64) {
+pub fn break_bucket(case: &mut Case, lot: u64) {
     let start = BUCKET_WORDS * (lot % case.floor.buckets) as usize;
     case.board[start + 7] = 1;
 }

@@ -21,6 +21,7 @@ fn see_broken_record(case: &Case, outcome: &Outcome, met: &mut Vec<String>) {
         case::TURN => "turn",
         case::RUN => "run",
         case::ORDERS => "orders",
+        case::RETIRE => "retire",
         _ => "start",
     };
     if !outcome.told.is_empty() {
@@ -171,7 +172,8 @@ fn see_broken_bucket(case: &Case, outcome: &Outcome, met: &mut Vec<String>) {
     }
 }
 
-fn causes_in_bucket(words: &[u64]) -> Vec<String> {
+/// §2.7.
+pub fn causes_in_bucket(words: &[u64]) -> Vec<String> {
     let mut causes = causes_in_mark_word(Snapshot::of(words[0]));
     if words[7] != 0 {
         causes.push(format!("the spare word {}", words[7]));
@@ -201,7 +203,10 @@ fn see_what_does_not_matter(case: &Case, met: &mut Vec<String>) {
     if worker_of(case).is_some() && any_record {
         met.push(format!("{name}: 0 with a broken record elsewhere"));
     }
-    if (worker_of(case).is_some() || case.call == case::SHOW) && any_bucket {
+    // a retiring that holds nothing is done over its own
+    let own = case.call == case::RETIRE
+        && record_of(case).is_some_and(|record| is_broken_at(case, record.key));
+    if (worker_of(case).is_some() || case.call == case::SHOW) && any_bucket && !own {
         met.push(format!("{name}: 0 with a broken bucket elsewhere"));
     }
     if matches!(case.call, case::LOOK | case::INSERT | case::REMOVE) && is_broken_at(case, case.lot)

@@ -6,7 +6,7 @@ use crate::memory::BUCKET_WORDS;
 use crate::outcome::{Answer, Outcome};
 use crate::record::{Record, INSERT, LOOK, NONE};
 use crate::report::{Action, Report};
-use crate::word::{snap_set_map, Snapshot, MAP_INSRT};
+use crate::word::Snapshot;
 
 /// A turn that was done.
 struct Turn<'a> {
@@ -218,8 +218,8 @@ fn see_swap(turn: &Turn, met: &mut Vec<String>) {
 
 /// The word that a swap expects.
 pub fn expected(record: &Record) -> u64 {
-    match record.place {
-        9 => snap_set_map(record.word, record.held, MAP_INSRT),
+    match (record.place, record.commit_expects()) {
+        (9, Some(word)) => word,
         _ => record.word,
     }
 }

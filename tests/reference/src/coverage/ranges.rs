@@ -63,7 +63,7 @@ fn see_lot(case: &Case, n: u64, met: &mut Vec<String>) {
     let name = NAMES[case.call as usize];
     let lot = match case.call {
         case::LOOK | case::INSERT | case::REMOVE | case::SHOW => case.lot,
-        case::TURN => case.list.records[case.worker as usize].key,
+        case::TURN | case::RETIRE => case.list.records[case.worker as usize].key,
         _ => return,
     };
     match lot {

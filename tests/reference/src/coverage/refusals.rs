@@ -5,7 +5,7 @@ use crate::case::{self, Case, NAMES};
 use crate::desk::{MOST_BUCKETS, MOST_TURNS, MOST_WORKERS};
 use crate::memory::{Board, BUCKET_WORDS};
 use crate::outcome::{Answer, Outcome};
-use crate::record::Record;
+use crate::record::{Record, NONE};
 
 pub fn see(case: &Case, outcome: &Outcome, met: &mut Vec<String>) {
     let name = NAMES[case.call as usize];
@@ -46,7 +46,7 @@ pub fn sizes(case: &Case) -> (u64, u64) {
 /// The worker that a call, or the first turn of a run, is for.
 pub fn worker_of(case: &Case) -> Option<u64> {
     match case.call {
-        case::LOOK | case::INSERT | case::REMOVE | case::TURN => Some(case.worker),
+        case::LOOK | case::INSERT | case::REMOVE | case::TURN | case::RETIRE => Some(case.worker),
         case::RUN => case.turns.first().map(|&worker| worker.into()),
         _ => None,
     }
@@ -72,10 +72,13 @@ fn is_broken_bucket(case: &Case, number: u64) -> bool {
 /// Every number that the case gives cause for, each looked at alone.
 pub fn applying(case: &Case) -> Vec<u8> {
     let starts = matches!(case.call, case::LOOK | case::INSERT | case::REMOVE);
-    let turns = matches!(case.call, case::TURN | case::RUN);
+    let busy = matches!(case.call, case::TURN | case::RUN | case::RETIRE);
     let record = record_of(case);
     let broken_bucket = match case.call {
         case::TURN | case::RUN => record.is_some_and(|record| is_broken_at(case, record.key)),
+        case::RETIRE => {
+            record.is_some_and(|record| record.held < NONE && is_broken_at(case, record.key))
+        }
         case::SHOW => is_broken_at(case, case.lot),
         case::COUNT | case::ORDERS => {
             (0..MOST_BUCKETS).any(|number| is_broken_bucket(case, number))
@@ -98,7 +101,7 @@ pub fn applying(case: &Case) -> Vec<u8> {
             5,
             case.call == case::INSERT && case.ticket <= case.floor.last_ticket,
         ),
-        (6, turns && record.is_some_and(Record::is_idle)),
+        (6, busy && record.is_some_and(Record::is_idle)),
         (7, broken_bucket),
         (9, case.call == case::RUN && case.turns.len() > MOST_TURNS),
         (10, !causes_of_10(case).is_empty()),

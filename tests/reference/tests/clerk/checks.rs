@@ -1,4 +1,5 @@
-//! The clerk, and the checks of item 5 while a schedule is played. Turns count from 1 over the whole schedule; refused ones do not count.
+//! The clerk, and the checks of item 5 while a schedule is played. Turns count from 1 over the whole schedule; refused ones do not count,
+//! and a retiring is none.
 
 use crate::engines::{Engine, Room};
 use crate::points::{self, Point};
@@ -29,6 +30,8 @@ pub enum Check {
     List,
     /// The slots with mark 2 are not just those that busy workers hold, each of one worker.
     Held,
+    /// The mark word of a bucket is once more the one that somebody's commit expects who held a slot there and was retired.
+    Again,
     /// The calls in the order of their moments are not what the clerk did.
     Sequence,
 }
@@ -133,6 +136,10 @@ struct Watch {
     reports: Vec<Report>,
     /// As the reports told them, each with its turn.
     answers: Vec<(usize, u64)>,
+    /// Of all who held a slot and were retired: the bucket, and the word that their commit expects.
+    retired: Vec<(usize, u64)>,
+    /// By worker: whether it was ever retired.
+    returned: Vec<bool>,
     met: BTreeSet<Point>,
 }
 
@@ -153,6 +160,8 @@ impl Watch {
             ended: Vec::new(),
             reports: Vec::new(),
             answers: Vec::new(),
+            retired: Vec::new(),
+            returned: vec![false; workers as usize],
             met: BTreeSet::new(),
         }
     }
@@ -168,6 +177,7 @@ impl Watch {
             Event::Insert(worker, lot, ticket) => self.start(INSERT, worker, lot, ticket),
             Event::Remove(worker, lot) => self.start(REMOVE, worker, lot, 0),
             Event::Turns(worker, turns) => (0..turns).try_for_each(|_| self.turn(worker)),
+            Event::Retire(worker) => self.retire(worker),
         }
     }
 
@@ -188,6 +198,30 @@ impl Watch {
             }
         }
         self.check_board()
+    }
+
+    /// The clerk hears nothing of a retiring, done or refused: the call that is dropped has no answer, and is as good as never begun.
+    fn retire(&mut self, worker: u64) -> Result<(), Failure> {
+        let record = self.room.desk.list.records.get(worker as usize).copied();
+        let before = self.room.desk.board.words();
+        match self.room.retire(worker) {
+            Ok(()) => self.dropped(worker as usize, &record.unwrap(), &before),
+            Err(refusal) => {
+                self.met.insert(Point::Refused(refusal));
+            }
+        }
+        self.check_board()
+    }
+
+    /// Notes that a call was dropped, from this record and on a board that had these words.
+    fn dropped(&mut self, worker: usize, record: &Record, before: &[u64]) {
+        let number = (record.key % self.room.desk.floor.buckets) as usize;
+        let after = self.room.desk.board.bucket(number).snapshot();
+        points::meet_retiring(&mut self.met, record, [before[8 * number], after]);
+        self.running[worker] = None;
+        self.returned[worker] = true;
+        let expected = record.commit_expects();
+        self.retired.extend(expected.map(|word| (number, word)));
     }
 
     /// Tells the clerk of a turn that was done, from this record.
@@ -230,6 +264,9 @@ impl Watch {
         let ticket_after = |turn: usize| self.clerks[turn].list.get(&call.lot).copied();
         let at_its_ends = [ticket_after(call.first), ticket_after(now)];
         points::meet_end(&mut self.met, &ended, at_its_ends);
+        if self.returned[worker] {
+            self.met.insert(Point::Returns);
+        }
         self.ended.push(ended);
         Ok(())
     }
@@ -258,6 +295,10 @@ impl Watch {
         }
         if slots_with(desk, MAP_INSRT) != held_slots(desk) {
             return self.fail(Check::Held);
+        }
+        let stands = |&(number, word): &(usize, u64)| desk.board.bucket(number).snapshot() == word;
+        if self.retired.iter().any(stands) {
+            return self.fail(Check::Again);
         }
         Ok(())
     }

@@ -1,5 +1,6 @@
-//! Desks that the checks can be tried on: the reference itself, and one turn by the customers' table of places over the reference's own
-//! types, as the table has it or with one mistake of a trainee in it. Starts and refusals are the reference's in all of them.
+//! Desks that the checks can be tried on: the reference itself, and turns by the customers' table of places and retirings by their words,
+//! over the reference's own types, as they are laid down or with one mistake of a trainee in it. Starts and refusals are the reference's in
+//! all of them.
 
 use reference::desk::{Desk, Manner, Refusal};
 use reference::memory::Bucket;
@@ -18,17 +19,23 @@ pub enum Flaw {
     BlindSwap,
     /// A lost commit forgets the held slot.
     ForgetsHeld,
+    /// A retiring makes the worker idle and leaves its mark where it is.
+    LeavesMark,
+    /// A retiring takes the mark away and leaves the version as it is.
+    LeavesVersion,
+    /// A retiring makes its word of the one that the worker had in mind.
+    WritesOwnWord,
 }
 
 #[derive(Clone, Copy, Debug, PartialEq, Eq)]
 pub enum Engine {
     /// The reference, with code that lives.
     Figures,
-    /// The table of places, and what is wrong with it.
+    /// The table of places, retirings by their words, and what is wrong with them.
     Table(Option<Flaw>),
 }
 
-/// An opened desk and the engine that gives its turns.
+/// An opened desk and the engine that gives its turns and retires its workers.
 pub struct Room {
     pub desk: Desk,
     engine: Engine,
@@ -57,6 +64,32 @@ impl Room {
             _ => self.desk.turn(worker),
         }
     }
+
+    pub fn retire(&mut self, worker: u64) -> Result<(), Refusal> {
+        let record = self.desk.list.records.get_mut(worker as usize);
+        match (self.engine, record) {
+            (Engine::Table(flaw), Some(record)) if !record.is_idle() => {
+                let number = (record.key % self.desk.floor.buckets) as usize;
+                retire_by_words(record, self.desk.board.bucket(number), flaw);
+                Ok(())
+            }
+            _ => self.desk.retire(worker),
+        }
+    }
+}
+
+fn retire_by_words(record: &mut Record, bucket: Bucket, flaw: Option<Flaw>) {
+    let Record { word, held, .. } = std::mem::replace(record, Record::idle());
+    if held == NONE {
+        return;
+    }
+    let stood = bucket.snapshot();
+    bucket.set_snapshot(match flaw {
+        Some(Flaw::LeavesMark) => stood,
+        Some(Flaw::LeavesVersion) => snap_set_map(stood, held, MAP_INVLD),
+        Some(Flaw::WritesOwnWord) => snap_set_map_and_inc_version(word, held, MAP_INVLD),
+        _ => snap_set_map_and_inc_version(stood, held, MAP_INVLD),
+    });
 }
 
 fn turn_by_table(record: &mut Record, bucket: Bucket, flaw: Option<Flaw>) -> Report {

@@ -2,7 +2,7 @@
 
 use crate::checks::Ended;
 use reference::desk::Refusal;
-use reference::record::{Record, INSERT, LOOK, REMOVE};
+use reference::record::{Record, INSERT, LOOK, NONE, REMOVE};
 use reference::report::{Action, Report};
 use std::collections::BTreeSet;
 
@@ -19,29 +19,57 @@ pub enum Point {
     FullRound,
     /// A call of this kind has its moments strictly between its first and its last turn, and only there.
     OnlyBetween(u8),
-    /// The version goes from 4,294,967,295 to 0.
-    Wraps,
+    /// The version goes from 4,294,967,295 to 0, by a commit or by a retiring.
+    Wraps {
+        retiring: bool,
+    },
+    /// A call of this kind is dropped at this place.
+    Retired {
+        kind: u8,
+        place: u8,
+        holding: bool,
+    },
+    /// A worker is retired and has a whole call after that.
+    Returns,
     Refused(Refusal),
 }
 
-/// All that the histories must meet. There is nothing else of this sort: on an opened board no start or turn is refused for another reason.
-pub const POINTS: [Point; 15] = [
-    Point::Outdated,
-    Point::Missed,
-    Point::FreesHeld,
-    Point::Lost(6),
-    Point::Lost(9),
-    Point::Lost(13),
-    Point::FullRound,
-    Point::OnlyBetween(LOOK),
-    Point::OnlyBetween(INSERT),
-    Point::OnlyBetween(REMOVE),
-    Point::Wraps,
-    Point::Refused(2),
-    Point::Refused(4),
-    Point::Refused(5),
-    Point::Refused(6),
-];
+/// All that the histories must meet. There is nothing else of this sort: on an opened board nothing is refused for another reason, and only
+/// an insert holds a slot: it may at places 1 to 5, it does not at 6, and it does at 7 to 10.
+pub fn points() -> BTreeSet<Point> {
+    let mut points = BTreeSet::from([
+        Point::Outdated,
+        Point::Missed,
+        Point::FreesHeld,
+        Point::Lost(6),
+        Point::Lost(9),
+        Point::Lost(13),
+        Point::FullRound,
+        Point::OnlyBetween(LOOK),
+        Point::OnlyBetween(INSERT),
+        Point::OnlyBetween(REMOVE),
+        Point::Wraps { retiring: false },
+        Point::Wraps { retiring: true },
+        Point::Returns,
+        Point::Refused(2),
+        Point::Refused(4),
+        Point::Refused(5),
+        Point::Refused(6),
+    ]);
+    for (kind, places, holding) in [
+        (LOOK, &[2, 3, 4, 5][..], false),
+        (INSERT, &[1, 2, 3, 4, 5, 6], false),
+        (INSERT, &[1, 2, 3, 4, 5, 7, 8, 9, 10], true),
+        (REMOVE, &[1, 11, 12, 13], false),
+    ] {
+        points.extend(places.iter().map(|&place| Point::Retired {
+            kind,
+            place,
+            holding,
+        }));
+    }
+    points
+}
 
 /// Notes what a turn that is done from this record meets.
 pub fn meet_turn(met: &mut BTreeSet<Point>, record: &Record, report: &Report) {
@@ -54,8 +82,24 @@ pub fn meet_turn(met: &mut BTreeSet<Point>, record: &Record, report: &Report) {
     if record.place == 10 && report.ended == Some(0) {
         met.insert(Point::FreesHeld);
     }
-    if (report.before as u32, report.after as u32) == (u32::MAX, 0) {
-        met.insert(Point::Wraps);
+    if wraps(report.before, report.after) {
+        met.insert(Point::Wraps { retiring: false });
+    }
+}
+
+fn wraps(before: u64, after: u64) -> bool {
+    (before as u32, after as u32) == (u32::MAX, 0)
+}
+
+/// Notes what a retiring from this record meets; the mark word of its bucket was the one, and is the other.
+pub fn meet_retiring(met: &mut BTreeSet<Point>, record: &Record, [before, after]: [u64; 2]) {
+    met.insert(Point::Retired {
+        kind: record.kind,
+        place: record.place,
+        holding: record.held != NONE,
+    });
+    if wraps(before, after) {
+        met.insert(Point::Wraps { retiring: true });
     }
 }
 

@@ -1,14 +1,15 @@
-//! Schedules: an opening, and then starts and turns, of which some may be refused.
+//! Schedules: an opening, and then starts, turns and retirings, of which some may be refused.
 
 use reference::random::Random;
 
-/// The numbers stand in the order worker, lot, ticket; or worker, how many turns.
+/// The numbers stand in the order worker, lot, ticket; or worker, how many turns; or it is the worker alone.
 #[derive(Clone, Copy, Debug, PartialEq, Eq)]
 pub enum Event {
     Look(u64, u64),
     Insert(u64, u64, u32),
     Remove(u64, u64),
     Turns(u64, usize),
+    Retire(u64),
 }
 
 #[derive(Clone, Debug)]
@@ -32,6 +33,7 @@ pub fn any_schedule(seed: u64) -> Schedule {
     let lowest = random.pick(&[0, u64::MAX - lots + 1]);
     // some do little at a time, and sleep while others do whole calls
     let paces: Vec<u64> = (0..=workers).map(|_| random.pick(&[3, 8, 14])).collect();
+    let retirings = random.pick(&[4, 16, 1_000]);
     let mut events = Vec::new();
     for at in 0..150 {
         let worker = any_worker(&mut random, workers);
@@ -43,6 +45,10 @@ pub fn any_schedule(seed: u64) -> Schedule {
         }
         let turns = 1 + random.below(paces[worker as usize]) as usize;
         events.push(Event::Turns(worker, turns));
+        if random.once_in(retirings) {
+            let worker = any_worker(&mut random, workers);
+            events.push(Event::Retire(worker));
+        }
     }
     Schedule {
         workers,

@@ -8,7 +8,7 @@ use crate::schedules::Event::{self, *};
 pub struct Story {
     pub flaw: Flaw,
     pub events: &'static [Event],
-    /// What is seen at the last of these turns, on the wrong engine.
+    /// What is seen at the last of these events, on the wrong engine.
     pub failure: Failure,
     /// Turns that end all calls on the right engine, and all its answers with the turns at which they are given.
     pub ending: &'static [Event],
@@ -156,11 +156,71 @@ const SLOT_LOST_FOR_GOOD: Story = Story {
     right_answers: &[(27, 1), (39, 1)],
 };
 
-pub const STORIES: [&Story; 6] = [
+/// Worker 0 inserts lot 7 and has claimed slot 0 when its container dies. It is retired, but the mark 2 stays: it is nobody's now, and
+/// nobody will ever take it away.
+const DEAD_MANS_SLOT: Story = Story {
+    flaw: Flaw::LeavesMark,
+    events: &[Insert(0, 7, 1), Turns(0, 8), Retire(0)],
+    failure: Failure {
+        turn: 8,
+        check: Check::Held,
+    },
+    // there is nobody left
+    ending: &[],
+    right_answers: &[],
+};
+
+/// Worker 0 inserts lot 7, has claimed slot 0, and its container dies. The word that it has in mind, and that its commit would expect, is
+/// mark 2 in slot 0 and version 0. It is retired, and the mark is taken away, but the version stays 0. Worker 1 inserts lot 8, reads that
+/// word, and claims slot 0: mark 2 in slot 0 and version 0, the word that the dead one expects (turn 16). Were it to wake, its commit would
+/// win, for a slot that is not its own. No answer is wrong as long as it does not.
+const THE_DEAD_MANS_WORD: Story = Story {
+    flaw: Flaw::LeavesVersion,
+    events: &[
+        Insert(0, 7, 1),
+        Turns(0, 8),
+        Retire(0),
+        Insert(1, 8, 2),
+        Turns(1, 8),
+    ],
+    failure: Failure {
+        turn: 16,
+        check: Check::Again,
+    },
+    ending: &[Turns(1, 3)],
+    right_answers: &[(19, 1)],
+};
+
+/// Worker 1 has inserted lot 8, in slot 0. Worker 0 inserts lot 7, has claimed slot 1, and its container dies. Worker 1 removes 8 and is
+/// answered its ticket. Worker 0 is retired, and its mark is taken away from the word that it had in mind, in which 8 is still valid: 8 is
+/// on the board again, and the clerk has struck it.
+const BACK_FROM_A_DEAD_MANS_WORD: Story = Story {
+    flaw: Flaw::WritesOwnWord,
+    events: &[
+        Insert(1, 8, 1),
+        Turns(1, 11),
+        Insert(0, 7, 2),
+        Turns(0, 9),
+        Remove(1, 8),
+        Turns(1, 4),
+        Retire(0),
+    ],
+    failure: Failure {
+        turn: 24,
+        check: Check::List,
+    },
+    ending: &[],
+    right_answers: &[(11, 1), (24, 1)],
+};
+
+pub const STORIES: [&Story; 9] = [
     &ANOTHER_LOTS_TICKET,
     &BEATEN_BID,
     &KEY_WITHOUT_ITS_VALUE,
     &SOLD_TWICE,
     &WIPED_OUT,
     &SLOT_LOST_FOR_GOOD,
+    &DEAD_MANS_SLOT,
+    &THE_DEAD_MANS_WORD,
+    &BACK_FROM_A_DEAD_MANS_WORD,
 ];

@@ -1,0 +1,84 @@
+-- A retiring, done or refused, on what demand 3 goes by. Assumes nothing.
+use Prim.Native.Nat.{ℕ}
+use mathlib.Core.List.{List}
+use mathlib.Core.Path.{_≡_, refl, ap}
+use native.Mathlib.Omega.{arith}
+use lib.Dec.{eqb}
+use lib.ListN.{length}
+use borrow.Author.Tests.{eqb-true}
+use Rattle.mark.proofs.Choices.{by-cases, passes}
+use Rattle.turn.specs.declared.Worker.{Worker}
+use Rattle.turn.specs.declared.Retired.{Retired}
+use Rattle.turn.specs.Worker.{idle}
+use Rattle.turn.specs.Bucket.{cell, markCell}
+use Rattle.turn.specs.Effects.{effectOfRetiring}
+use Rattle.turn.specs.Turn.{After, after}
+use Rattle.turn.specs.Retire.{notRetired, isRetired}
+use Rattle.turn.proofs.Effects.{idle-aimed}
+use Rattle.turn.proofs.Retiring.{retiring-moves}
+use Rattle.engine.specs.Board.{bucketOf}
+use Rattle.engine.specs.Refusals.{wrongSizes, retireNumber}
+use Rattle.engine.specs.Calls.{vacatedOn, retireCall}
+use Rattle.engine.specs.Calls as Calls
+use Rattle.engine.proofs.Sizes.{right-listed}
+use Rattle.engine.proofs.Retiring.{retire-accepted, vacated-word, vacated-others}
+use Rattle.history.specs.Trace.{Retiring, retired}
+use Rattle.history.specs.Counts.{isChange}
+use Rattle.history.specs.History.{State, recordOf, retireBy, retiredAs, retireEntry}
+use Rattle.history.proofs.Lawful.{committed, closed}
+use Rattle.history.proofs.Counts.{retiring-is, retiring-bumps, retiring-quiet}
+use Rattle.history.proofs.View.{Acts, Walk, stays, acts}
+use Rattle.history.proofs.States.{view, same-walk}
+
+module _ (s : State) (i : ℕ) where
+  abbrev w : Worker
+  w = recordOf s i
+
+  abbrev b : ℕ
+  b = bucketOf (w .key) (s .floor .buckets)
+
+  -- its number of refusal
+  abbrev pub number : ℕ
+  number = retireNumber (s .floor) (s .board) (length (s .records)) i w
+
+  -- what it leaves and hands back where it is done
+  abbrev pub done : After Retired
+  done = after (vacatedOn (s .floor) (s .board) w) isRetired
+
+  abbrev pub entry : Retiring
+  entry = record { worker = i; was = w; bucket = b }
+
+  -- where it is not refused, there is a record for each worker
+  listed : number ≡ 0 → length (s .records) ≡ s .floor .workers
+  unfolding retireNumber
+  listed none = right-listed (s .floor) (s .board) _ (passes (wrongSizes (s .floor) (s .board) _) 0 _ none .0)
+
+  -- and it is done: it acts on what demand 3 goes by
+  pub retire-acts : number ≡ 0 → Acts (s .floor .buckets) (view s) (retired entry) idle (view (retiredAs s i done))
+  retire-acts none =
+      let known = retire-accepted (s .floor) (s .board) (length (s .records)) i w none in
+      record {
+        effect = effectOfRetiring w;
+        commits = retiring-quiet w committed refl refl;
+        closes = retiring-quiet w closed refl refl;
+        changes = retiring-is w (isChange (retired entry));
+        bumps = retiring-bumps w (isChange (retired entry));
+        within = omega (arith, listed none, known .2);
+        records = refl;
+        last = refl;
+        bucket = refl;
+        was = refl;
+        here = vacated-word (s .floor) (s .board) w (known .0) (known .1);
+        there = λ c other. ap (λ (l : List ℕ). cell l markCell) (vacated-others (s .floor) (s .board) w (known .0) c other);
+        moves = retiring-moves _ w (known .1) _;
+        aims = λ aimed. idle-aimed;
+        tells = record { effect-is = refl; idles = refl };
+      }
+
+  -- done or refused, a retiring is a walk of its entries
+  pub retire-walk : Walk (s .floor .buckets) (view s) (retireEntry s i (retireBy s i)) 0 (view (retiredAs s i (retireBy s i)))
+  unfolding retireCall Calls.retired
+  retire-walk =
+      by-cases (λ (x : After Retired). Walk (s .floor .buckets) (view s) (retireEntry s i x) 0 (view (retiredAs s i x)))
+      (eqb number 0) done (after (s .board) (notRetired number w))
+      (λ is. acts (retire-acts (eqb-true number 0 is)) stays) (λ isnot. rw isnot (same-walk (s .floor .buckets) s i))

@@ -1,0 +1,197 @@
+-- Retiring on every opened board: whoever is at a call can be retired, nothing else is touched, and a container that comes back after all finds
+-- its word never again. Assumes nothing.
+use Prim.Native.Nat.{ℕ, _+_, _%_, _≤_, _<_}
+use mathlib.Core.List.{List, [], _∷_, _++_}
+use mathlib.Core.Path.{_≡_, refl, ap, _∙_}
+use native.Mathlib.Decide.{ℕ-discrete, decLe}
+use native.Mathlib.Nat.{mod-lt}
+use native.Mathlib.Omega.{arith}
+use lib.ListN.{length, List·getD-eq-default}
+use Rattle.mark.specs.Word.{version, nextVersion}
+use Rattle.mark.proofs.Fields.{version-set, version-lt}
+use Rattle.turn.specs.declared.Worker.{Worker}
+use Rattle.turn.specs.Worker.{noSlot, idle}
+use Rattle.turn.specs.Bucket.{markCell}
+use Rattle.turn.proofs.Retiring.{retire-version, retires-holder}
+use Rattle.engine.specs.Calls.{blank, recordIn, retireCall}
+use Rattle.engine.specs.Calls as Calls
+use Rattle.engine.proofs.Sizes.{right-listed}
+use Rattle.history.specs.Trace.{Entry, retired, total}
+use Rattle.history.specs.Counts.{isChange}
+use Rattle.history.specs.History.{State, Opening, Call, workersOf, opened, recordOf, retireBy, retiredAs, after, traceFrom, state, trace}
+use Rattle.history.specs.History as History
+use Rattle.history.specs.Cells.{cellsAt, markWordAt, Holds}
+use Rattle.history.specs.HowLong.{IsIdle}
+use Rattle.history.specs.Retirings.{bucketOfWorker, GivesBack, IsRetired, Retirings}
+use Rattle.history.proofs.View.{new-record, old-record}
+use Rattle.history.proofs.States.{view}
+use Rattle.history.proofs.Counts.{bumpOf, inBucket, in-bucket, in-bucket-le, one-yes, total-append, onto, total-onto}
+use Rattle.history.proofs.Retiring as Going
+use Rattle.history.proofs.Steps.{Retires, done-retires}
+use Rattle.history.proofs.Cells.{holds-busy, by-word-left, retire-empties, retire-spares}
+use Rattle.history.proofs.Histories.{traceFrom-append}
+use Rattle.history.proofs.Opened.{opened-right}
+use Rattle.history.proofs.Beginning.{history-good}
+use Rattle.history.proofs.SameSizes.{state-workers, state-buckets}
+use Rattle.history.proofs.Unbroken.{state-unbroken}
+use Rattle.history.proofs.Unrefused.{busy-retires}
+
+-- ---- one retiring
+
+module _ {s : State} (i : ℕ) (act : Retires s (Going.entry s i) (retiredAs s i (Going.done s i))) where
+  abbrev t : State
+  t = retiredAs s i (Going.done s i)
+
+  abbrev w : Worker
+  w = recordOf s i
+
+  abbrev b : ℕ
+  b = bucketOfWorker s i
+
+  -- where no slot is held the mark word is as it was
+  word-stays : (Holds w → ⊥) → markWordAt t b ≡ markWordAt s b
+  word-stays free =
+      by-word-left act (λ (m : ℕ). m ≡ markWordAt s b) (λ none. refl) (λ some few. absurd (free (retires-holder _ w (act .ok) some)))
+
+  cells-stay : (c k : ℕ) → (Holds w → c ≡ b → k ≡ markCell → ⊥) → cellsAt t c k ≡ cellsAt s c k
+  cells-stay c k apart = by (ℕ-discrete k markCell) (ℕ-discrete c b)
+    where
+      by : Dec (k ≡ markCell) → Dec (c ≡ b) → cellsAt t c k ≡ cellsAt s c k
+      by (no beside) bucket = act .cells c k beside
+      by (yes mark) (no elsewhere) = rw mark (act .acts .there c elsewhere)
+      by (yes mark) (yes here) = rw (mark, here) (word-stays (λ holds. apart holds here mark))
+
+  module _ (holds : Holds w) where
+    some-slot : w .held ≡ noSlot → ⊥
+    some-slot is = omega (arith, is, holds .1)
+
+    version-then : version (markWordAt t b) ≡ nextVersion (version (markWordAt s b))
+    version-then =
+        by-word-left act (λ (m : ℕ). version m ≡ nextVersion (version (markWordAt s b))) (λ none. absurd (some-slot none))
+        (λ some few. retire-version (w .held) _)
+
+    gives-back : GivesBack s i t
+    gives-back =
+        record {
+          empties = retire-empties act some-slot;
+          moves = version-then;
+          marks = λ p other. retire-spares act b p (λ some here same. other same);
+        }
+
+  is-retired : IsRetired s i t
+  is-retired =
+      record {
+        idles = new-record (view s) (view t) i idle (act .acts .records) (act .acts .within);
+        others = old-record (view s) (view t) i idle (act .acts .records);
+        floor = refl;
+        cells = cells-stay;
+        gives-back = gives-back;
+      }
+
+-- whoever holds a slot has a record in the list
+holds-within : (records : List Worker) (i : ℕ) → Holds (recordIn records i) → i < length records
+holds-within records i holds = by (decLe (length records) i)
+  where
+    by : Dec (length records ≤ i) → i < length records
+    by (no under) = omega arith
+    by (yes past) = absurd (omega (arith, holds .0, ap (λ (w : Worker). w .kind) (List·getD-eq-default records blank {n = i} past)))
+
+-- ---- histories
+
+module _ (o : Opening) (calls : List Call) where
+  abbrev s : State
+  s = state o calls
+
+  module _ (i : ℕ) (under : i < workersOf o) (busy : IsIdle s i → ⊥) where
+    unrefused : Going.number s i ≡ 0
+    unrefused = busy-retires s (state-unbroken o calls) i (omega (arith, under, state-workers o calls)) busy
+
+    retires : Retires s (Going.entry s i) (retiredAs s i (Going.done s i))
+    retires = done-retires s i unrefused
+
+    -- what the engine says of the retiring
+    done-is : retireBy s i ≡ Going.done s i
+    unfolding retireCall Calls.retired
+    done-is = rw unrefused
+
+    -- its entry
+    entry-is : History.entries s (History.retire i) ≡ retired (Going.entry s i) ∷ []
+    entry-is = rw done-is
+
+  module _ (i : ℕ) (holds : Holds (recordOf s i)) (later : List Call) where
+    abbrev holder : Worker
+    holder = recordOf s i
+
+    abbrev bucket : ℕ
+    bucket = bucketOfWorker s i
+
+    abbrev then : List Call
+    then = calls ++ (History.retire i ∷ later)
+
+    abbrev since : List Entry
+    since = traceFrom (after s (History.retire i)) later
+
+    abbrev left : Entry
+    left = retired (Going.entry s i)
+
+    there : i < workersOf o
+    there = omega (arith, holds-within (s .records) i holds, right-listed _ _ _ (state-unbroken o calls .sized), state-workers o calls)
+
+    trace-is : trace o then ≡ trace o calls ++ (left ∷ since)
+    unfolding traceFrom
+    trace-is =
+        traceFrom-append (opened o) calls (History.retire i ∷ later)
+        ∙ ap (λ (es : List Entry). trace o calls ++ (es ++ since)) (entry-is i there (holds-busy _ holds))
+
+    -- a count over all that was done, cut at the retiring
+    counted : (f : Entry → ℕ) → total f (onto (trace o then) []) ≡ total f (onto (trace o calls) []) + (f left + total f since)
+    unfolding total
+    counted f =
+        omega (
+          arith,
+          total-onto f (trace o then) [],
+          total-onto f (trace o calls) [],
+          ap (total f) trace-is,
+          total-append f (trace o calls) (left ∷ since),
+        )
+
+    one : bumpOf left ≡ 1
+    one = one-yes (isChange left) (some-slot i (retires i there (holds-busy _ holds)) holds)
+
+    -- The version of the bucket is as much further than the holder's word as it was when the holder was retired, one more, and what moved it
+    -- since: together no more than was ever moved, and so less than 2^32.
+    further : version (markWordAt (state o then) bucket) ≡ version (holder .word) → ⊥
+    further same =
+        let was = history-good o calls in
+        let now = history-good o then in
+        let few : bucket < o .plan .buckets =
+        rw (state-buckets o calls) (mod-lt (holder .key) (opened-right o .some-bucket)) in
+        let behind = was .behind i holds in
+        let home-is = ap (λ (k : ℕ). version (markWordAt s (holder .key % k))) (state-buckets o calls) in
+        omega (
+          arith,
+          same,
+          was .tells bucket few .bumps,
+          now .tells bucket few .bumps,
+          behind .few,
+          behind .moved,
+          home-is,
+          counted (inBucket bucket bumpOf),
+          counted bumpOf,
+          in-bucket bucket bumpOf left refl,
+          one,
+          in-bucket-le bucket bumpOf since,
+          now .tickets,
+          now .fits,
+          version-lt (holder .word),
+        )
+
+  -- §19: retirings on an opened board
+  pub retirings : Retirings o calls
+  retirings =
+      record {
+        accepted = λ i under busy. rw (done-is i under busy);
+        retired = λ i under busy. rw (done-is i under busy) (is-retired i (retires i under busy));
+        never-again = λ i holds later is.
+            further i holds later (ap version is ∙ version-set (recordOf s i .word) (recordOf s i .held) 2);
+      }

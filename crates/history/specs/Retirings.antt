@@ -1,0 +1,50 @@
+-- Retiring a worker on an opened board. That all of it holds after every opening and every list of calls is `retirings`, in proofs/Retirings.
+use Prim.Native.Nat.{ℕ, _<_}
+use mathlib.Core.List.{List, _∷_, _++_}
+use mathlib.Core.Path.{_≡_}
+use Rattle.mark.specs.Word.{version, nextVersion}
+use Rattle.turn.specs.Bucket.{markCell}
+use Rattle.turn.specs.Places.{filled}
+use Rattle.history.specs.History.{State, Opening, Call, retire, workersOf, recordOf, retireBy, after, state}
+use Rattle.history.specs.Cells.{cellsAt, markWordAt, markAt, home, Holds}
+use Rattle.history.specs.HowLong.{IsIdle}
+
+-- the bucket of worker i's lot
+abbrev pub bucketOfWorker : State → ℕ → ℕ
+bucketOfWorker s i = home (s .floor .buckets) (recordOf s i)
+
+-- worker i, which holds a slot in s, is retired, and t is left
+pub record GivesBack (s : State) (i : ℕ) (t : State) : Type 0 where
+  -- §19.2: the slot is empty then
+  pub empties : markAt t (bucketOfWorker s i) (recordOf s i .held) ≡ 0
+  -- §19.2: and the version has moved on by one
+  pub moves : version (markWordAt t (bucketOfWorker s i)) ≡ nextVersion (version (markWordAt s (bucketOfWorker s i)))
+  -- every other mark of that bucket is as it was
+  pub marks : (p : ℕ) → (p ≡ recordOf s i .held → ⊥) → markAt t (bucketOfWorker s i) p ≡ markAt s (bucketOfWorker s i) p
+
+-- worker i, which is at a call in s, is retired, and t is left
+pub record IsRetired (s : State) (i : ℕ) (t : State) : Type 0 where
+  -- §19.1: it is idle then
+  pub idles : IsIdle t i
+  -- the other records and the floor are as they were
+  pub others : (j : ℕ) → (j ≡ i → ⊥) → recordOf t j ≡ recordOf s j
+  pub floor : t .floor ≡ s .floor
+  -- §19.2: no cell is touched but the mark word of its bucket, and that only where it held a slot
+  pub cells : (b k : ℕ) → (Holds (recordOf s i) → b ≡ bucketOfWorker s i → k ≡ markCell → ⊥) → cellsAt t b k ≡ cellsAt s b k
+  pub gives-back : Holds (recordOf s i) → GivesBack s i t
+
+-- retirings after an opening and these calls
+pub record Retirings (o : Opening) (calls : List Call) : Type 0 where
+  -- §19.3: whoever is at a call can be retired
+  pub accepted : (i : ℕ) → i < workersOf o → (IsIdle (state o calls) i → ⊥) → retireBy (state o calls) i .handed .refusal ≡ 0
+  -- §19.1, §19.2: and then is
+  pub retired :
+      (i : ℕ) → i < workersOf o → (IsIdle (state o calls) i → ⊥) → IsRetired (state o calls) i (after (state o calls) (retire i))
+  -- §19.5: a worker that held a slot and comes back after all has in mind a word that its bucket never has again, whatever is called since:
+  -- its commit would not be won
+  pub never-again :
+      (i : ℕ)
+      → Holds (recordOf (state o calls) i)
+      → (later : List Call)
+      → markWordAt (state o (calls ++ (retire i ∷ later))) (bucketOfWorker (state o calls) i) ≡ filled (recordOf (state o calls) i)
+      → ⊥
