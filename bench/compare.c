@@ -41,6 +41,10 @@ static unsigned long classes[MOST_IN_CLASS + 1], finished, cut, lost_in_walks, l
    stood there, and those whose version came round; and of the others those whose bucket was broken, which nobody asks about */
 static unsigned long retired[LAST_PLACE + 1], freed[LAST_PLACE + 1], freed_mark[DESK_MARK_INSERTING + 1], freed_round, over_broken;
 
+/* records beside a turn that was done: those that counted it, those that were at the highest number, idle ones and broken ones; and turns
+   whose worker had slept */
+static unsigned long slept, slept_most, idle_beside, broken_beside, woke;
+
 static bool missing(const char *what, unsigned number, unsigned long times) {
     if (times == 0) printf("never met: %s %u\n", what, number);
     return times == 0;
@@ -56,6 +60,15 @@ static bool lacks_retirings(void) {
     for (unsigned mark = 0; mark <= DESK_MARK_INSERTING; mark++) lacks |= missing("a retiring over mark", mark, freed_mark[mark]);
     lacks |= missing("a retiring that takes the version to", 0, freed_round);
     lacks |= missing("retirings with nothing held over a broken bucket over", 0, over_broken);
+    return lacks;
+}
+
+static bool lacks_sleepers(void) {
+    bool lacks = missing("sleepers beside a turn over", 0, slept);
+    lacks |= missing("sleepers at the highest number beside a turn over", 0, slept_most);
+    lacks |= missing("idle workers beside a turn over", 0, idle_beside);
+    lacks |= missing("broken records beside a turn over", 0, broken_beside);
+    lacks |= missing("turns of sleepers over", 0, woke);
     return lacks;
 }
 
@@ -78,6 +91,7 @@ bool met_everything(void) {
     lacks |= missing("cut walks over", 0, cut);
     lacks |= missing("lost swaps in one walk over", 1, lost_more);
     lacks |= lacks_retirings();
+    lacks |= lacks_sleepers();
     printf("%lu calls of %lu histories compared, with no difference; runs had %lu changes, %lu lost swaps, %lu full rounds; of all orders "
            "%lu were finished and %lu cut, with %lu lost swaps\n",
         compared, histories, changes, lost, full, finished, cut, lost_in_walks);
@@ -180,6 +194,7 @@ static void compare_records(size_t i, const desk_worker *desk, const desk_worker
     compare_number("word of record", i, desk->word, plain->word);
     compare_number("held of record", i, desk->held, plain->held);
     compare_number("seen of record", i, desk->seen, plain->seen);
+    compare_number("asleep of record", i, desk->asleep, plain->asleep);
 }
 
 static size_t least(size_t a, size_t b) {
@@ -231,10 +246,11 @@ static void note_orders(const hall *h, const answer *a) {
     lost_more += a->number[4] > 1;
 }
 
-/* what a call finds: its worker's record, and the mark word and the spare word of that one's bucket */
+/* what a call finds: its worker's record, the mark word and the spare word of that one's bucket, and all records */
 typedef struct {
     desk_worker worker;
     uint64_t word, spare;
+    desk_worker records[ROOM_RECORDS];
 } found;
 
 static found find(const hall *h, const call *c) {
@@ -242,6 +258,7 @@ static found find(const hall *h, const call *c) {
     if (c->worker < h->listed) f.worker = h->records[c->worker];
     size_t bucket = desk_bucket(f.worker.key, h->floor.buckets);
     if (bucket < MOST_BUCKETS) f.word = h->board[BUCKET_WORDS * bucket], f.spare = h->board[BUCKET_WORDS * bucket + DESK_AT_SPARE];
+    memcpy(f.records, h->records, sizeof f.records);
     return f;
 }
 
@@ -264,6 +281,26 @@ static void note_retiring(const found *f) {
     freed_round += desk_version(f->word) == 0xffffffff;
 }
 
+/* whether a record is idle, broken or busy, as a start for it says */
+static uint8_t refused_start(desk_worker w) {
+    uint64_t bucket[BUCKET_WORDS] = {0};
+    desk_floor floor = {.workers = 1, .buckets = 1};
+    return by_hand.start_look(bucket, BUCKET_WORDS, &w, 1, floor, 0, 0).refusal;
+}
+
+/* of a turn that is done */
+static void note_sleepers(const found *f, size_t listed, size_t worker) {
+    woke += f->worker.asleep != 0;
+    for (size_t i = 0; i < listed; i++) {
+        if (i == worker) continue;
+        uint8_t refusal = refused_start(f->records[i]);
+        idle_beside += refusal == 0;
+        broken_beside += refusal == DESK_BROKEN_RECORD;
+        slept += refusal == DESK_BUSY_WORKER && f->records[i].asleep != UINT32_MAX;
+        slept_most += refusal == DESK_BUSY_WORKER && f->records[i].asleep == UINT32_MAX;
+    }
+}
+
 static void note(const call *c, const hall *h, const answer *a, const found *f) {
     unsigned place = f->worker.place;
     met[c->which][a->number[0] % REFUSALS]++;
@@ -271,6 +308,7 @@ static void note(const call *c, const hall *h, const answer *a, const found *f) 
     if (c->which == RETIRE && a->number[0] == 0) note_retiring(f);
     if (c->which == TURN) {
         if (a->number[0] == 0 && place <= LAST_PLACE) places[place]++;
+        if (a->number[0] == 0) note_sleepers(f, h->listed, c->worker);
         note_report(TURN, a->number + REPORT_OF_TURN);
     }
     if (c->which == RUN) {

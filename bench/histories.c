@@ -83,7 +83,8 @@ static desk_plan some_plan(chance *c) {
 static void fill_with_anything(chance *c, hall *h) {
     for (size_t i = 0; i < ROOM_WORDS; i++) h->board[i] = any(c);
     for (size_t i = 0; i < ROOM_RECORDS; i++)
-        h->records[i] = (desk_worker){.kind = 9, .place = 99, .key = any(c), .ticket = 9, .slot = 9, .word = any(c), .held = 9, .seen = i};
+        h->records[i] = (desk_worker){
+            .kind = 9, .place = 99, .key = any(c), .ticket = 9, .slot = 9, .word = any(c), .held = 9, .seen = i, .asleep = 9};
 }
 
 static void start_some(chance *c) {
@@ -167,11 +168,17 @@ static uint8_t held_at(chance *c, unsigned place) {
     return (uint8_t)below(c, place < 6 ? HOLDS_NONE + 1 : SLOTS);
 }
 
+/* often so near to the highest number that a run comes to it */
+static uint32_t some_sleep(chance *c) {
+    return (uint32_t)ONE_OF(c, 0, 1, 0xffffffff, 0xfffffffe, 0xffffffff - below(c, 12), any(c));
+}
+
 /* a record that is not broken; often its word and its seen are what the bucket has, so that swaps win and looks find */
 static desk_worker any_record(chance *c, const hall *h) {
     desk_worker w = {.kind = (uint8_t)ONE_OF(c, LOOK, INSERT, INSERT, REMOVE), .key = some_lot(c, h->floor.buckets), .held = HOLDS_NONE};
     const uint64_t *bucket = h->board + BUCKET_WORDS * (w.key % h->floor.buckets);
     w.slot = (uint8_t)below(c, SLOTS);
+    w.asleep = some_sleep(c);
     w.seen = now_and_then(c, 60) ? bucket[4 + w.slot] : below(c, 4);
     if (w.kind != LOOK) w.word = now_and_then(c, 60) ? bucket[0] : some_word(c);
     if (w.kind == LOOK) w.place = (uint8_t)(2 + below(c, 4));
@@ -186,7 +193,7 @@ static desk_worker any_record(chance *c, const hall *h) {
 
 /* one field as no call leaves it, or by chance as one does */
 static void spoil(chance *c, desk_worker *w) {
-    switch (below(c, 9)) {
+    switch (below(c, 10)) {
     case 0: w->kind = (uint8_t)ONE_OF(c, 0, 1, 2, 3, 4, 255); break;
     case 1: w->place = (uint8_t)ONE_OF(c, below(c, 16), below(c, 16), 255); break;
     case 2: w->ticket = (uint32_t)below(c, 2); break;
@@ -195,6 +202,7 @@ static void spoil(chance *c, desk_worker *w) {
     case 5: w->held = (uint8_t)ONE_OF(c, below(c, 5), 255); break;
     case 6: w->seen = below(c, 3); break;
     case 7: w->key = below(c, 2); break;
+    case 8: w->asleep = some_sleep(c); break;
     default: *w = (desk_worker){0}; break;
     }
 }
@@ -254,26 +262,34 @@ static void wild_history(chance *c, uint64_t seed, uint64_t history) {
     }
 }
 
-/* ---- every record, as far as its small fields go: all orders, a turn, a retiring, and then a start on the same */
+/* ---- every record, as far as its small fields go: all orders, a turn, a retiring, a turn of another beside it, and then a start on the
+   same */
+
+/* the other one looks */
+static void put_record(desk_worker w) {
+    halls.desk.records[0] = halls.plain.records[0] = w;
+    halls.desk.records[1] = halls.plain.records[1] = (desk_worker){.kind = LOOK, .place = 2, .key = 2, .held = HOLDS_NONE};
+}
 
 static void try_record(chance *c, desk_worker w) {
     hall *h = &halls.desk;
     any_bucket(c, h->board, 1);
     for (size_t i = 0; i < h->words; i++) halls.plain.board[i] = h->board[i];
-    h->records[0] = halls.plain.records[0] = w;
+    put_record(w);
     make(&halls, &(call){.which = ORDERS, .depth = some_depth(c, h)});
     make(&halls, &(call){.which = TURN, .worker = 0});
-    h->records[0] = halls.plain.records[0] = w;
+    put_record(w);
     make(&halls, &(call){.which = RETIRE, .worker = 0});
-    h->records[0] = halls.plain.records[0] = w;
+    put_record(w);
+    make(&halls, &(call){.which = TURN, .worker = 1});
     make(&halls, &(call){.which = START_REMOVE, .worker = 0, .lot = 5});
 }
 
 static void every_record(chance *c, uint64_t seed, uint64_t history) {
     any_hall(c, &halls.desk);
-    halls.desk.floor = (desk_floor){.workers = 1, .buckets = 1, .last = 0};
+    halls.desk.floor = (desk_floor){.workers = 2, .buckets = 1, .last = 0};
     halls.desk.words = BUCKET_WORDS;
-    halls.desk.listed = 1;
+    halls.desk.listed = 2;
     begin(&halls, seed, history);
     for (uint8_t kind = 0; kind <= 4; kind++)
         for (uint8_t place = 0; place <= LAST_PLACE + 1; place++)
@@ -284,6 +300,7 @@ static void every_record(chance *c, uint64_t seed, uint64_t history) {
                         if (more >= 2) w.word = more < 4 ? some_word(c) : broken_word(c);
                         if (now_and_then(c, 50)) w.key = below(c, 3);
                         if (now_and_then(c, 50)) w.seen = below(c, 3);
+                        if (now_and_then(c, 50)) w.asleep = some_sleep(c);
                         try_record(c, w);
                     }
 }

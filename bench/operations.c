@@ -59,7 +59,8 @@ static void holders_scene(stage *g, size_t buckets, size_t workers) {
 }
 
 /* Every bucket is full, and every worker inserts one more lot: they go round for ever, so a run can be of any length and its turns are
-   all accepted. The board stays as it is, and a record comes round with every tenth turn, so nothing has to be put back. */
+   all accepted, and everybody else sleeps through each. The board stays as it is, and a record comes round with every tenth turn, so nothing
+   has to be put back. */
 static void full_scene(stage *g, size_t buckets, size_t workers) {
     hall *h = &g->scenes[0].first;
     fill_board(h, buckets, SLOTS);
@@ -74,7 +75,14 @@ static void short_scene(stage *g, size_t buckets, size_t workers) {
     g->scenes[0].count = SHORT_RUN;
 }
 
-/* the same turns in no order, as a class would call them: whoever predicts the next place is wrong more often */
+/* the same, but one worker alone is at a call, and has all turns: nobody sleeps */
+static void lone_scene(stage *g, size_t buckets, size_t workers) {
+    full_scene(g, buckets, workers);
+    for (size_t i = 1; i < workers; i++) g->scenes[0].first.records[i] = idle_record;
+    for (size_t i = 0; i < LONG_RUN; i++) g->scenes[0].turns[i] = 0;
+}
+
+/* the same turns as the long run's in no order, as a class would call them: whoever predicts the next place is wrong more often */
 static void shuffled_scene(stage *g, size_t buckets, size_t workers) {
     full_scene(g, buckets, workers);
     chance c = {.state = 1};
@@ -176,6 +184,12 @@ static void repeat_turn(const side *s, stage *g, size_t repeats) {
     hall *h = &g->now;
     for (size_t worker = 0; repeats > 0; repeats--, worker = next_worker(h, worker))
         if (s->turn) s->turn(h->board, h->words, h->records, h->listed, h->floor, worker);
+}
+
+static void repeat_lone_turn(const side *s, stage *g, size_t repeats) {
+    hall *h = &g->now;
+    for (; repeats > 0; repeats--)
+        if (s->turn) s->turn(h->board, h->words, h->records, h->listed, h->floor, 0);
 }
 
 static void repeat_start_look(const side *s, stage *g, size_t repeats) {
@@ -286,6 +300,8 @@ const operation operations[OPERATIONS] = {
     {"mixed-run", "turn", mixed_scenes, repeat_mixed, turns_of_scenes, 1, EVERY_SIZE},
     {"short-run", "turn", short_scene, repeat_run, turns_of_run, 40, EVERY_SIZE},
     {"turn", "call", full_scene, repeat_turn, one, WHOLE_ROUNDS, EVERY_SIZE},
+    {"lone-run", "turn", lone_scene, repeat_run, turns_of_run, 1, THREE_SIZES},
+    {"lone-turn", "call", lone_scene, repeat_lone_turn, one, WHOLE_ROUNDS, THREE_SIZES},
     {"start-look", "call", idle_scene, repeat_start_look, one, 64, THREE_SIZES},
     {"start-insert", "call", idle_scene, repeat_start_insert, one, 64, THREE_SIZES},
     {"start-remove", "call", idle_scene, repeat_start_remove, one, 64, THREE_SIZES},

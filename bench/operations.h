@@ -39,7 +39,7 @@ typedef struct {
     sizes sizes;
 } operation;
 
-enum { OPERATIONS = 15 };
+enum { OPERATIONS = 17 };
 extern const operation operations[OPERATIONS];
 
 /* sets a stage up for an operation, and puts it back where that left it before */

@@ -63,6 +63,14 @@ desk_outcome plain_start_remove(const uint64_t *board, size_t words, desk_worker
 
 /* ---- one turn */
 
+/* The others who are busy sleep through a turn (§20.2): their number counts on in place. An idle record is passed over at a glance. */
+static void let_sleep(desk_worker *records, size_t listed, size_t worker) {
+    for (size_t i = 0; i < listed; i++) {
+        desk_worker *w = &records[i];
+        if (w->kind != IDLE && i != worker && w->asleep != UINT32_MAX && !broken_record(w)) w->asleep++;
+    }
+}
+
 /* The sizes are right; answers the refusal, or 0. A refused turn leaves *report alone, so a run that lends one place keeps the last. */
 static uint8_t give_turn(uint64_t *board, desk_worker *records, const desk_floor *floor, size_t worker, desk_report *report) {
     if (worker >= floor->workers) return DESK_NO_WORKER;
@@ -73,7 +81,9 @@ static uint8_t give_turn(uint64_t *board, desk_worker *records, const desk_floor
     uint64_t *bucket = board + BUCKET_WORDS * number;
     if (broken_bucket(bucket)) return DESK_BROKEN_BUCKET;
     uint64_t before = bucket[MARKS];
+    w->asleep = 0;
     desk_report done = act(bucket, w);
+    let_sleep(records, floor->workers, worker);
     done.bucket = number;
     done.before = before;
     done.after = bucket[MARKS];

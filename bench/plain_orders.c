@@ -1,5 +1,6 @@
 /* All orders by hand: recursion over the depth that is left, which tries each busy worker on a copy, with no table of what was met before
-   (docs/RULES.md, §18). */
+   (docs/RULES.md, §18). Turns here leave everybody's `asleep` alone, the worker's own too: no action of a turn and no count of a walk goes by
+   it, and the copies are thrown away (§20.3). */
 #include "step.h"
 
 enum { MOST_IN_CLASS = 3, MOST_DEPTH = 24 };

@@ -57,7 +57,7 @@ static bool broken_bucket(const uint64_t *bucket) {
 
 static bool idle(const desk_worker *w) {
     return w->kind == IDLE && w->place == 0 && w->key == 0 && w->ticket == 0 && w->slot == 0 && w->word == 0 &&
-        w->held == HOLDS_NONE && w->seen == 0;
+        w->held == HOLDS_NONE && w->seen == 0 && w->asleep == 0;
 }
 
 static bool held_fits(unsigned place, unsigned held) {
@@ -136,7 +136,7 @@ static desk_report remove_on(desk_worker *w) {
     return goes_on(w, DESK_READ, 11);
 }
 
-/* the record is busy and not broken, and the bucket is not broken */
+/* The record is busy and not broken, and the bucket is not broken. That the worker wakes (§20.2) is left to whoever lets the others sleep. */
 static desk_report act(uint64_t *bucket, desk_worker *w) {
     switch (w->place) {
     case 1:

@@ -26,7 +26,7 @@
 /* The number of this interface, for `#if`. It goes up by one when a program that was written for it has to be looked at again: a
    struct has another layout, a function takes or answers something else, a constant stands for something else. Whoever upgrades compares
    it with the number that his program was written for. It has nothing to do with the version in a mark word. */
-#define DESK_VERSION 3
+#define DESK_VERSION 4
 
 /* ---- numbers */
 
@@ -131,12 +131,15 @@ typedef struct {
     uint32_t ticket; /* greater than the floor's last */
 } desk_bid;
 
-/* A worker's record. The library writes it; a caller can read it, and can keep one and put it back. */
+/* A worker's record. The library writes it; a caller can read it, and can keep one and put it back. The bytes past `held` are no part
+   of it: they can hold anything, before a call and after it, so two records are compared field by field. */
 typedef struct {
     uint64_t key;    /* the lot of its call */
     uint64_t word;   /* the mark word as an insert or a remove last read or swapped it; 0 in a look */
     uint64_t seen;   /* the ticket that it read in a slot, to be compared with a second reading or answered */
     uint32_t ticket; /* what an insert brought; 0 in a look and a remove */
+    uint32_t asleep; /* the turns that others have had since its start or its own last turn, whichever is later; it stays at 2^32 - 1.
+                        0 in an idle record; a busy one is sound with any number here */
     uint8_t slot;    /* the slot that the call is at */
     uint8_t kind;    /* DESK_IDLE, DESK_LOOK, DESK_INSERT or DESK_REMOVE */
     uint8_t place;   /* which memory action the next turn does, 1 to 13; 0 in an idle record */
@@ -218,8 +221,8 @@ extern "C" {
    one that stood before, all 0 where there was none; it comes back where the opening is refused. */
 desk_outcome desk_open_floor(uint64_t *board, size_t words, desk_worker *records, size_t listed, desk_floor floor, desk_plan plan);
 
-/* Start a call for an idle worker, and touch no more than its record; an insert's ticket becomes the floor's last. The call is done by
-   turns for that worker, until one has `ended`. */
+/* Start a call for an idle worker, and touch no more than its record, in which `asleep` is 0; an insert's ticket becomes the floor's last.
+   The call is done by turns for that worker, until one has `ended`. */
 desk_outcome desk_start_look(const uint64_t *board, size_t words, desk_worker *records, size_t listed, desk_floor floor,
     size_t worker, uint64_t lot);
 desk_outcome desk_start_insert(const uint64_t *board, size_t words, desk_worker *records, size_t listed, desk_floor floor,
@@ -230,23 +233,29 @@ desk_outcome desk_start_remove(const uint64_t *board, size_t words, desk_worker 
 /* Does the next memory action of a worker's call. On an opened board a busy worker's turn is never refused, and a look takes 4 to 10 turns,
    whatever others do. While no other worker has a turn, and none that holds a slot is retired, a remove takes 6 at most, and an insert 13, if
    a slot of its bucket is empty when it starts, or is valid with its lot. Any other insert goes round, and reports it by `full` each time,
-   until somebody else changes that bucket: whoever gives turns to one worker alone, until the call has ended, looks at that too. */
+   until somebody else changes that bucket: whoever gives turns to one worker alone, until the call has ended, looks at that too.
+
+   A turn that is done leaves 0 in the `asleep` of its worker's record, and whoever else is busy sleeps through it: each other record that is
+   busy and not broken counts one more in `asleep`, or stays at the highest number, and nothing else of it is touched. One that is idle stays
+   as it is, and so does one that is broken. Nothing but such a turn counts: no start, no retiring, no show, no count, no walk of all orders,
+   and no turn that is refused. */
 desk_turn_outcome desk_turn(uint64_t *board, size_t words, desk_worker *records, size_t listed, desk_floor floor, size_t worker);
 
 /* Retires a worker that is at a call and will not go on: its record becomes idle, and its call has no answer and is never done. If it held
    a slot, that slot's mark becomes DESK_MARK_EMPTY, whatever it was, and the version of its bucket goes on by one, both in one act; if it
    held none, its bucket is not looked at. Nothing else is touched; the floor stays as it is, and the ticket of a retired insert stays spent.
-   A retiring is no turn: it reports nothing and is in no totals. On an opened board whoever is busy can be retired, and the mark word that
-   the commit of a retired insert would have expected never stands in its bucket again, however the board is used from then on. For a
-   container that comes back after all that is one lost swap, and no leave to go on with its old record: it begins a new call.
+   A retiring is no turn: it reports nothing, is in no totals, and counts in nobody's `asleep`. On an opened board whoever is busy can be
+   retired, and the mark word that the commit of a retired insert would have expected never stands in its bucket again, however the board
+   is used from then on. For a container that comes back after all that is one lost swap, and no leave to go on with its old record: it
+   begins a new call.
 
    Answers DESK_DONE, or why it is refused: DESK_WRONG_SIZES, DESK_NO_WORKER, DESK_BROKEN_RECORD, DESK_IDLE_WORKER and DESK_BROKEN_BUCKET are
    looked at in this order, the last only where a slot is held. */
 uint8_t desk_retire(uint64_t *board, size_t words, desk_worker *records, size_t listed, desk_floor floor, size_t worker);
 
-/* Does `count` turns, each for the worker whose number stands in `turns`, and stops before the first that is refused; those before it
-   are done. It has the report of the last turn done, and not of those before: which turn ended a call it tells of the last one alone. A
-   worker whose call has ended is idle, and a further turn for it stops the run. */
+/* Does `count` turns, each for the worker whose number stands in `turns`, and stops before the first that is refused; those before it are
+   done, and leave all that as many single turns would, in every record too. It has the report of the last turn done, and not of those before:
+   which turn ended a call it tells of the last one alone. A worker whose call has ended is idle, and a further turn for it stops the run. */
 desk_run_outcome desk_run(uint64_t *board, size_t words, desk_worker *records, size_t listed, desk_floor floor,
     const uint8_t *turns, size_t count);
 
@@ -323,7 +332,7 @@ static inline uint64_t desk_value(const uint64_t *bucket, size_t slot) {
 
 /* The record of an idle worker. An opening leaves these; whoever makes a list by hand begins with them. */
 static inline desk_worker desk_idle_record(void) {
-    desk_worker idle = {0, 0, 0, 0, 0, DESK_IDLE, 0, DESK_NO_SLOT};
+    desk_worker idle = {0, 0, 0, 0, 0, 0, DESK_IDLE, 0, DESK_NO_SLOT};
     return idle;
 }
 

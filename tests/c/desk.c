@@ -1,6 +1,7 @@
 /* The library from C: every field where C reads it, the sleeper by single turns and by one run, a show and a count with the header's own
-   readers, what the screen shows of an insert turn by turn, what is reported (reports.c), all orders (orders.c), retirings (retire.c),
-   every refusal (refusals.c), and a full round. Says what is not as it should be, and how many checks were made. */
+   readers, what the screen shows of an insert turn by turn, who has been asleep (asleep.c), what is reported (reports.c), all orders
+   (orders.c), retirings (retire.c), every refusal (refusals.c), and a full round. Says what is not as it should be, and how many checks
+   were made. */
 #include "hall.h"
 #include <stdio.h>
 
@@ -26,17 +27,24 @@ static void test_layout(void) {
     CHECK(one.board[16] == 0x5555555555555555u + 16);
     CHECK(one.floor.workers == 3 && one.floor.buckets == 2 && one.floor.last == 0);
 
-    /* an insert that is about to store its key in slot 1: each field has a value of its own, and one turn leaves it in its place */
+    /* an insert that is about to store its key in slot 1: each field has a value of its own, and one turn leaves it in its place, but for
+       `asleep`, which another's turn counts on */
     desk_worker busy = {.key = 0x1122334455667701u, .word = 0x0000020000000007u, .seen = 0x99AA00BBCC00DDEEu, .ticket = 0x8899AABBu,
-                        .kind = DESK_INSERT, .place = 8, .slot = 0, .held = 1};
+                        .asleep = 0x24681357u, .kind = DESK_INSERT, .place = 8, .slot = 0, .held = 1};
     one.records[1] = busy;
     desk_report stored = {.before = 0xFFFFFFFFu, .after = 0xFFFFFFFFu, .bucket = 1, .action = DESK_STORE};
     desk_turn_outcome t = turn(&one, 1);
     CHECK(t.refusal == DESK_DONE && same_report(t.report, stored));
     CHECK(one.board[8 + 2] == busy.key);
     busy.place = 9;
+    busy.asleep = 0;
     CHECK(same_record(&one.records[1], &busy));
     CHECK(same_record(&one.records[0], &idle) && same_record(&one.records[2], &idle));
+    one.records[1].asleep = 0x24681357u;
+    busy.asleep = 0x24681358u;
+    CHECK(start_look(&one, 0, 4) == DESK_DONE && turn(&one, 0).refusal == DESK_DONE);
+    CHECK(same_record(&one.records[1], &busy));
+    one.records[0] = idle;
 
     CHECK(start_insert(&one, 2, 0x0102030405060708u, 0xFFFFFFFFu) == DESK_DONE);
     desk_worker inserts = {.key = 0x0102030405060708u, .ticket = 0xFFFFFFFFu, .kind = DESK_INSERT, .place = 1, .held = DESK_NO_SLOT};
@@ -359,6 +367,7 @@ int main(void) {
     test_buckets_of_lots();
     test_readers();
     test_screen();
+    test_asleep();
     test_reports();
     test_orders();
     test_retire();

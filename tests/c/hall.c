@@ -2,6 +2,7 @@
 
 hall one, two, before;
 static hall singly, unwalked, unretired;
+static desk_worker stood[ROOM_FOR_WORKERS];
 uint8_t many[ROOM_FOR_TURNS];
 const desk_report refused_report = {.action = DESK_NONE}, no_turn = {.action = DESK_READ};
 
@@ -11,8 +12,8 @@ bool same_report(desk_report a, desk_report b) {
 }
 
 bool same_record(const desk_worker *a, const desk_worker *b) {
-    return a->key == b->key && a->word == b->word && a->seen == b->seen && a->ticket == b->ticket && a->kind == b->kind &&
-           a->place == b->place && a->slot == b->slot && a->held == b->held;
+    return a->key == b->key && a->word == b->word && a->seen == b->seen && a->ticket == b->ticket && a->asleep == b->asleep &&
+           a->kind == b->kind && a->place == b->place && a->slot == b->slot && a->held == b->held;
 }
 
 static bool same_floor(desk_floor a, desk_floor b) {
@@ -35,7 +36,8 @@ void copy_hall(hall *to, const hall *from) {
 void fill(hall *h) {
     for (size_t i = 0; i < DESK_BUCKET_WORDS * ROOM_FOR_BUCKETS; i++) h->board[i] = 0x5555555555555555u + i;
     for (size_t i = 0; i < ROOM_FOR_WORKERS; i++)
-        h->records[i] = (desk_worker){.key = i, .word = 9, .seen = 9, .ticket = 9, .kind = 9, .place = 9, .slot = 9, .held = 9};
+        h->records[i] =
+            (desk_worker){.key = i, .word = 9, .seen = 9, .ticket = 9, .asleep = 9, .kind = 9, .place = 9, .slot = 9, .held = 9};
     h->floor = (desk_floor){.workers = 3, .buckets = 5, .last = 77};
 }
 
@@ -74,13 +76,44 @@ static uint64_t mark_word(const hall *h, size_t bucket) {
     return bucket < ROOM_FOR_BUCKETS ? h->board[DESK_BUCKET_WORDS * bucket + DESK_AT_MARK] : 0;
 }
 
+bool is_busy(desk_worker w) {
+    uint64_t bucket[DESK_BUCKET_WORDS] = {0};
+    desk_floor floor = {.workers = 1, .buckets = 1};
+    return desk_start_look(bucket, DESK_BUCKET_WORDS, &w, 1, floor, 0, 0).refusal == DESK_BUSY_WORKER;
+}
+
+/* §20.2: what another's turn leaves of a record */
+static desk_worker slept(desk_worker w) {
+    if (is_busy(w) && w.asleep < UINT32_MAX) w.asleep++;
+    return w;
+}
+
+/* whether a turn that is done has left the others as it has to, and whatever stands past what is lent */
+static bool others_slept(const hall *h, size_t worker) {
+    for (size_t i = 0; i < ROOM_FOR_WORKERS; i++) {
+        desk_worker expected = i < h->listed ? slept(stood[i]) : stood[i];
+        if (i != worker && !same_record(&h->records[i], &expected)) return false;
+    }
+    return true;
+}
+
+static bool nobody_slept(const hall *h) {
+    for (size_t i = 0; i < ROOM_FOR_WORKERS; i++)
+        if (!same_record(&h->records[i], &stood[i])) return false;
+    return true;
+}
+
 desk_turn_outcome turn(hall *h, size_t worker) {
     size_t bucket = worker < h->listed ? desk_bucket(h->records[worker].key, h->floor.buckets) : 0;
-    uint64_t stood = mark_word(h, bucket);
+    uint64_t word = mark_word(h, bucket);
+    for (size_t i = 0; i < ROOM_FOR_WORKERS; i++) stood[i] = h->records[i];
     desk_turn_outcome t = desk_turn(h->board, h->words, h->records, h->listed, h->floor, worker);
     if (t.refusal == DESK_DONE) {
         CHECK(t.report.bucket == bucket);
-        CHECK(t.report.before == stood && t.report.after == mark_word(h, bucket));
+        CHECK(t.report.before == word && t.report.after == mark_word(h, bucket));
+        CHECK(h->records[worker].asleep == 0 && others_slept(h, worker));
+    } else {
+        CHECK(nobody_slept(h));
     }
     return t;
 }

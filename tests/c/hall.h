@@ -1,5 +1,5 @@
 /* A hall: a floor with the board and the records that belong to it, and the library's calls on it. For the program that checks them, which
-   is desk.c, reports.c, orders.c, retire.c and refusals.c. */
+   is desk.c, asleep.c, reports.c, orders.c, retire.c and refusals.c. */
 #ifndef HALL_H
 #define HALL_H
 
@@ -36,9 +36,12 @@ void fill(hall *h);
 /* A hall that was filled and then opened. */
 void opened(hall *h, size_t workers, size_t buckets, uint32_t version);
 
-/* The calls; each keeps the floor that comes back. Of a turn that is done the report's bucket is held to the lot, and its two words to the
-   board; of a run the last report and all that it leaves to the same turns one by one; a retiring to what it may change, and to changing
-   nothing where it is refused; and all orders to changing nothing. */
+/* Whether a record is busy and not broken: a start for its worker is then refused by 4. */
+bool is_busy(desk_worker w);
+
+/* The calls; each keeps the floor that comes back. Of a turn that is done the report's bucket is held to the lot, its two words to the
+   board, and every record to §20.2, and one that is refused to leaving all of these; of a run the last report and all that it leaves to the
+   same turns one by one; a retiring to what it may change, and to changing nothing where it is refused; and all orders to changing nothing. */
 uint8_t open_hall(hall *h, size_t workers, size_t buckets, uint32_t version);
 uint8_t start_look(hall *h, size_t worker, uint64_t lot);
 uint8_t start_insert(hall *h, size_t worker, uint64_t lot, uint32_t ticket);
@@ -54,7 +57,8 @@ bool counts(desk_run_outcome r, uint32_t turns, uint32_t changes, uint32_t lost,
 /* Whether all orders came to these numbers, and were not refused. */
 bool walked(desk_orders_outcome o, uint64_t finished, uint64_t cut, uint64_t lost, uint64_t most);
 
-/* The checks of reports.c, of orders.c, of retire.c and of refusals.c. */
+/* The checks of asleep.c, of reports.c, of orders.c, of retire.c and of refusals.c. */
+void test_asleep(void);
 void test_reports(void);
 void test_orders(void);
 void test_retire(void);

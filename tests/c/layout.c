@@ -8,15 +8,16 @@
 #define AT(type, field, byte) HOLDS(type##_has_##field, offsetof(type, field) == (byte))
 #define IS(constant, number) HOLDS(constant##_is, (constant) == (number))
 
-SIZE(desk_worker, 32);
+SIZE(desk_worker, 40);
 AT(desk_worker, key, 0);
 AT(desk_worker, word, 8);
 AT(desk_worker, seen, 16);
 AT(desk_worker, ticket, 24);
-AT(desk_worker, slot, 28);
-AT(desk_worker, kind, 29);
-AT(desk_worker, place, 30);
-AT(desk_worker, held, 31);
+AT(desk_worker, asleep, 28);
+AT(desk_worker, slot, 32);
+AT(desk_worker, kind, 33);
+AT(desk_worker, place, 34);
+AT(desk_worker, held, 35);
 SIZE(desk_floor, 24);
 AT(desk_floor, workers, 0);
 AT(desk_floor, buckets, 8);
@@ -64,7 +65,7 @@ AT(desk_orders_outcome, lost, 16);
 AT(desk_orders_outcome, most, 24);
 AT(desk_orders_outcome, refusal, 32);
 
-IS(DESK_VERSION, 3);
+IS(DESK_VERSION, 4);
 IS(DESK_MOST_WORKERS, 64);
 IS(DESK_MOST_BUCKETS, 256);
 IS(DESK_MOST_TURNS, 65535);

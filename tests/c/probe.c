@@ -59,6 +59,7 @@ static desk_worker read_record(void) {
     w.word = number();
     w.held = (uint8_t)number();
     w.seen = number();
+    w.asleep = (uint32_t)number();
     return w;
 }
 
@@ -136,8 +137,8 @@ static void words_out(const uint64_t *part, size_t many) {
 }
 
 static bool alike(const desk_worker *a, const desk_worker *b) {
-    return a->key == b->key && a->word == b->word && a->seen == b->seen && a->ticket == b->ticket && a->kind == b->kind &&
-        a->place == b->place && a->slot == b->slot && a->held == b->held;
+    return a->key == b->key && a->word == b->word && a->seen == b->seen && a->ticket == b->ticket && a->asleep == b->asleep &&
+        a->kind == b->kind && a->place == b->place && a->slot == b->slot && a->held == b->held;
 }
 
 static void records_out(void) {
@@ -146,7 +147,7 @@ static void records_out(void) {
         const desk_worker *w = &records[i];
         for (end = i + 1; end < listed && alike(&records[end], w); end++) {
         }
-        printf(" %x.%x.%lx.%x.%x.%lx.%x.%lx", w->kind, w->place, w->key, w->ticket, w->slot, w->word, w->held, w->seen);
+        printf(" %x.%x.%lx.%x.%x.%lx.%x.%lx.%x", w->kind, w->place, w->key, w->ticket, w->slot, w->word, w->held, w->seen, w->asleep);
         times_out(end - i);
     }
 }

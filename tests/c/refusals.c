@@ -107,6 +107,22 @@ static void test_workers(void) {
     for (size_t i = 0; i < sizeof nobody / sizeof nobody[0]; i++) REFUSED(DESK_NO_WORKER, retire(&one, nobody[i]));
 }
 
+/* a record that is idle but for the turns that it counts (§20.1), the last of three */
+static void idle_and_asleep(uint32_t asleep) {
+    uint8_t third = 2;
+    opened(&one, 3, 1, 9);
+    one.records[2].asleep = asleep;
+    REFUSED(DESK_BROKEN_RECORD, start_look(&one, 2, 7));
+    REFUSED(DESK_BROKEN_RECORD, start_insert(&one, 2, 7, 0));
+    REFUSED(DESK_BROKEN_RECORD, start_remove(&one, 2, 7));
+    REFUSED(DESK_BROKEN_RECORD, refused_turn(2));
+    REFUSED(DESK_BROKEN_RECORD, refused_run(&third, 1));
+    REFUSED(DESK_BROKEN_RECORD, retire(&one, 2));
+    REFUSED(DESK_BROKEN_RECORD, refused_orders(1));
+    one.records[2].asleep = 0;
+    CHECK(start_look(&one, 2, 7) == DESK_DONE);
+}
+
 static void test_records(void) {
     uint8_t first = 0, second = 1;
     opened(&one, 2, 2, 9);
@@ -122,6 +138,8 @@ static void test_records(void) {
     REFUSED(DESK_BROKEN_RECORD, refused_turn(1));
     REFUSED(DESK_BROKEN_RECORD, retire(&one, 1));
     REFUSED(DESK_BROKEN_RECORD, refused_run(&second, 1));
+    idle_and_asleep(1);
+    idle_and_asleep(UINT32_MAX);
 }
 
 /* the worker busy or idle, the ticket, the length of a run; and then the bucket, of which a start asks nothing */
@@ -197,6 +215,8 @@ static void test_broken_in_class(void) {
         {.kind = 4, .place = 2, .held = 3},
         {.held = 0},
         {.held = 3, .seen = 1},
+        {.held = 3, .asleep = 1},
+        {.held = 3, .asleep = UINT32_MAX},
         {.kind = DESK_LOOK, .place = 1, .held = 3},
         {.kind = DESK_LOOK, .place = 6, .held = 3},
         {.kind = DESK_LOOK, .place = 2, .slot = 3, .held = 3},

@@ -1,5 +1,5 @@
 /* What a turn reports and what a run keeps of it: each field where C reads it, the reports around a slot that is given back, and what
-   desk.h says of the words in them, for twenty thousand turns in no order and retirings between them. */
+   desk.h says of the words in them and of sleepers, for twenty thousand turns in no order and retirings between them. */
 #include "hall.h"
 
 /* ---- each field with a value of its own: a lot closed in the last of 256 buckets, by a turn and as the last turn of a run */
@@ -105,7 +105,8 @@ static void test_giving_back(void) {
 
 /* ---- turns in no order and retirings between them, on an opened board: the reports of a bucket are a chain, in which a retiring with a
    held slot has its place though it reports nothing; the two words differ after a change and after nothing else, whether a swap wins can be
-   told from the words, and a swap is never lost to a change of its own worker */
+   told from the words, and a swap is never lost to a change of its own worker; and who is busy has slept through the turns since its start
+   or its last one (§20.1) */
 
 enum { WORKERS = 6, BUCKETS = 3, LOTS = 9, TURNS = 20000, FIRST_VERSION = 7 };
 
@@ -114,6 +115,8 @@ typedef struct {
     uint64_t moment[WORKERS]; /* that the worker's last turn left which read the mark word whole or changed it */
     size_t changer[BUCKETS];  /* whose turn it was that last reported two words that differ, or who was retired later; nobody is WORKERS */
     bool freed[BUCKETS];      /* whether the last of these was a retiring */
+    uint32_t turns;           /* of all workers so far */
+    uint32_t woke[WORKERS];   /* how many of these had been at the worker's start, or with its last turn */
     unsigned won, lost, lost_to_retiring, full, given_back, retired, freed_slots;
 } account;
 
@@ -151,6 +154,15 @@ static void account_for(account *a, desk_report r, size_t worker, uint8_t place)
     a->given_back += place == 10;
 }
 
+/* whether each record counts the turns of the others, as they were told one by one */
+static bool sleeps_on(const account *a) {
+    for (size_t i = 0; i < WORKERS; i++) {
+        uint32_t since = one.records[i].kind == DESK_IDLE ? 0 : a->turns - a->woke[i];
+        if (one.records[i].asleep != since) return false;
+    }
+    return true;
+}
+
 /* often one that holds a slot, if there is one */
 static size_t any_dead(void) {
     size_t dead = below(WORKERS);
@@ -166,13 +178,19 @@ static void retire_any(account *a) {
     if (one.records[worker].kind == DESK_IDLE) return;
     bool held = one.records[worker].held != DESK_NO_SLOT;
     size_t bucket = desk_bucket(one.records[worker].key, BUCKETS);
-    CHECK(retire(&one, worker) == DESK_DONE);
+    CHECK(retire(&one, worker) == DESK_DONE && sleeps_on(a));
     uint64_t word = one.board[DESK_BUCKET_WORDS * bucket];
     CHECK((word != a->word[bucket]) == held);
     a->word[bucket] = word;
     if (held) a->changer[bucket] = worker, a->freed[bucket] = true;
     a->retired++;
     a->freed_slots += held;
+}
+
+static void start_for(account *a, size_t worker) {
+    CHECK(start_any(&one, worker) == DESK_DONE);
+    a->woke[worker] = a->turns;
+    CHECK(sleeps_on(a));
 }
 
 /* mostly the worker goes on, since a slot is given back only where its holder slept while another got on */
@@ -183,10 +201,11 @@ static void test_any_order(void) {
     for (unsigned i = 0; i < TURNS; i++) {
         if (below(8) == 0) worker = below(WORKERS);
         if (below(60) == 0) retire_any(&a);
-        if (one.records[worker].kind == DESK_IDLE) CHECK(start_any(&one, worker) == DESK_DONE);
+        if (one.records[worker].kind == DESK_IDLE) start_for(&a, worker);
         uint8_t place = one.records[worker].place;
         desk_turn_outcome t = turn(&one, worker);
-        CHECK(t.refusal == DESK_DONE && t.report.bucket < BUCKETS);
+        a.woke[worker] = ++a.turns;
+        CHECK(t.refusal == DESK_DONE && t.report.bucket < BUCKETS && sleeps_on(&a));
         if (t.report.bucket < BUCKETS) account_for(&a, t.report, worker, place);
     }
     CHECK(a.won > 0 && a.lost > 0 && a.full > 0 && a.given_back > 0);

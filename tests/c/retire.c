@@ -64,7 +64,7 @@ static bool may_stand(uint8_t kind, uint8_t place) {
 }
 
 static desk_worker record(uint8_t kind, uint8_t place, uint8_t held, uint8_t slot) {
-    desk_worker w = {.key = 5, .seen = 6, .kind = kind, .place = place, .held = held, .slot = slot};
+    desk_worker w = {.key = 5, .seen = 6, .asleep = 7, .kind = kind, .place = place, .held = held, .slot = slot};
     if (kind == DESK_INSERT) w.ticket = 4;
     if (kind != DESK_LOOK) w.word = 0x0002000100000008u;
     return w;

@@ -124,7 +124,7 @@ module _ (c : ℕ → ℕ) (w : Worker) (d : ℕ → ℕ) (p : ℕ) where
 
 -- a worker holds slot p of bucket b
 abbrev pub IsHeld : State → ℕ → ℕ → Type 0
-IsHeld s b p = (i : ℕ) × (i < length (s .records)) × IsHeldBy s b p i
+IsHeld s b p = (i : ℕ) × (i < length (view s .records)) × IsHeldBy s b p i
 
 -- §17.8: every slot with mark 2 is held by a worker
 abbrev pub Marked : State → Type 0
@@ -151,8 +151,8 @@ module _ {s t : State} {e : Turn} (act : Turns s e t) (old : Marked s) where
   x = stepOf s e .stepped
 
   -- a turn leaves as many records
-  listed : length (t .records) ≡ length (s .records)
-  listed = rw (act .acts .records) (length-set (s .records) i (x .worker))
+  listed : length (view t .records) ≡ length (view s .records)
+  listed = rw (act .acts .records) (length-set (view s .records) i (x .worker))
 
   module _ (p : ℕ) where
     -- the worker of the turn holds slot p after it
@@ -165,7 +165,7 @@ module _ {s t : State} {e : Turn} (act : Turns s e t) (old : Marked s) where
         )
 
     -- another worker holds slot p, before the turn and after it
-    others : (b j : ℕ) → (j ≡ i → ⊥) → j < length (s .records) → IsHeldBy s b p j → IsHeld t b p
+    others : (b j : ℕ) → (j ≡ i → ⊥) → j < length (view s .records) → IsHeldBy s b p j → IsHeld t b p
     others b j other under held =
         (j, rw listed under, still-held s t b p j (act .buckets) (old-record (view s) (view t) i (x .worker) (act .acts .records) j other) held)
 
@@ -177,7 +177,7 @@ module _ {s t : State} {e : Turn} (act : Turns s e t) (old : Marked s) where
       where
         by :
             (j : ℕ)
-            → j < length (s .records)
+            → j < length (view s .records)
             → IsHeldBy s bucket p j
             → Dec (j ≡ i)
             → IsHeld t bucket p
@@ -223,7 +223,7 @@ start-marked {s} {t} {v} start old b p two =
     let held = was .2 in
     let other : j ≡ who → ⊥ = λ is. holds-busy _ (held .holds) (ap (recordOf s) is ∙ start .starts .was) in
     let same : recordOf t j ≡ recordOf s j = old-record (view s) (view t) who v (start .starts .records) j other in
-    (j, rw (start .starts .records) (rw (length-set (s .records) who v) (was .1)), still-held s t b p j (start .buckets) same held)
+    (j, rw (start .starts .records) (rw (length-set (view s .records) who v) (was .1)), still-held s t b p j (start .buckets) same held)
 
 -- a slot that has mark 2 after a retiring had it before, and is not the one that was given back
 retiring-marked : {s t : State} {r : Retiring} → Retires s r t → Marked s → Marked t
@@ -232,8 +232,8 @@ retiring-marked {s} {t} {r} act old b p two =
     let j = was .0 in
     let other : j ≡ r .worker → ⊥ = λ is. gone (subst (IsHeldBy s b p) is (was .2)) in
     let same : recordOf t j ≡ recordOf s j = old-record (view s) (view t) (r .worker) idle (act .acts .records) j other in
-    let long : length (t .records) ≡ length (s .records) =
-    ap (λ (ws : List Worker). length ws) (act .acts .records) ∙ length-set (s .records) (r .worker) idle in
+    let long : length (view t .records) ≡ length (view s .records) =
+    ap (λ (ws : List Worker). length ws) (act .acts .records) ∙ length-set (view s .records) (r .worker) idle in
     (j, subst (λ (n : ℕ). j < n) (sym long) (was .1), still-held s t b p j (act .buckets) same (was .2))
   where
     gone : IsHeldBy s b p (r .worker) → ⊥

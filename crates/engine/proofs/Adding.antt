@@ -4,7 +4,7 @@ use mathlib.Core.Bool.{false}
 use mathlib.Core.Path.{_≡_, refl, ap, _∙_}
 use mathlib.Core.List.{List, [], _∷_}
 use native.Mathlib.Nat.{add-zero, add-assoc}
-use lib.ListN.{length, getD, set}
+use lib.ListN.{length, getD}
 use borrow.Author.Tests.{le-ltb}
 use Rattle.turn.specs.declared.Worker.{Worker}
 use Rattle.turn.specs.declared.Report.{Report}
@@ -12,7 +12,7 @@ use Rattle.turn.specs.Turn.{Answer, Refused, Done, After}
 use Rattle.engine.specs.declared.Floor.{Floor}
 use Rattle.engine.specs.declared.Totals.{Totals}
 use Rattle.engine.specs.Refusals.{wrongSizes, eachNumber, runNumber}
-use Rattle.engine.specs.Calls.{Ran, turned, tallied, noTurns, standing, unbegun, blank, goOn, runFrom, runCall}
+use Rattle.engine.specs.Calls.{Ran, turned, tallied, noTurns, standing, unbegun, blank, afterTurn, goOn, runFrom, runCall}
 
 -- both counted together
 abbrev pub added : Totals → Totals → Totals
@@ -39,8 +39,8 @@ module _ (t : Totals) where
       ≡ counting (goOn rest i place board w a (standing board ws u last 0 .handed))
   go-on-adds rest i place board w (Refused number) ws u last same = refl
   go-on-adds rest i place board w (Done report) ws u last same =
-      ap (λ (n : Totals). rest (standing board (set ws i w) n report 0)) (tallied-adds place report u)
-      ∙ same (set ws i w) (tallied place report u) report
+      ap (λ (n : Totals). rest (standing board (afterTurn ws i w) n report 0)) (tallied-adds place report u)
+      ∙ same (afterTurn ws i w) (tallied place report u) report
 
   -- a run with something counted before counts on from there, and does the same
   pub run-adds :

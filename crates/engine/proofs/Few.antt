@@ -8,9 +8,10 @@ use borrow.Author.Tests.{le-leb}
 use Rattle.turn.specs.declared.Action.{Action}
 use Rattle.turn.specs.declared.Action.the-variants.{Read, Store, Won, Lost}
 use Rattle.turn.specs.declared.Report.{Report}
+use Rattle.turn.specs.Asleep.{capped}
 use Rattle.engine.specs.declared.Totals.{Totals}
 use Rattle.engine.specs.Room.{Few}
-use Rattle.engine.specs.Calls.{changes, losses, tallied, capped, cappedTotals}
+use Rattle.engine.specs.Calls.{changes, losses, tallied, cappedTotals}
 
 full-le : (full : Bool) → cond full 1 0 ≤ 1
 full-le true = omega arith

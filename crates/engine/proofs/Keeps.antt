@@ -1,7 +1,7 @@
 -- What a turn keeps of the board and of its worker's record, done or refused. Assumes nothing.
 use Prim.Native.Nat.{ℕ, _+_, _*_, _≤_, _<_}
 use mathlib.Core.Bool.{false}
-use mathlib.Core.Path.{_≡_, refl, _∙_}
+use mathlib.Core.Path.{_≡_, refl, ap, _∙_}
 use mathlib.Core.List.{List}
 use mathlib.Core.Logic.{_⊎_, inl, inr}
 use native.Mathlib.Decide.{ℕ-discrete}
@@ -14,12 +14,14 @@ use Rattle.turn.specs.declared.Worker.{Worker}
 use Rattle.turn.specs.declared.Report.{Report}
 use Rattle.turn.specs.Worker.{broken, isIdle}
 use Rattle.turn.specs.Bucket.{cell, brokenBucket}
+use Rattle.turn.specs.Asleep.{awake}
 use Rattle.turn.specs.Places.{rows, stays, turn}
 use Rattle.turn.specs.Turn.{turnRefusal, Turned, After, after, refusing, doing}
 use Rattle.turn.proofs.Sound.{Accepted, accepted, accepted-works, ready, whole-not-broken}
 use Rattle.turn.proofs.Works.{works-within, From, among}
 use Rattle.turn.proofs.Cells.{cellOf, touched, turn-long, turn-one-cell, turn-one-writing}
 use Rattle.turn.proofs.Kept.{turn-whole, turn-sound}
+use Rattle.turn.proofs.Asleep.{touched-awake, awake-accepted, awake-kept}
 use Rattle.engine.specs.declared.Floor.{Floor}
 use Rattle.engine.specs.declared.Seat.{Seat}
 use Rattle.engine.specs.Board.{bucketAt, withBucket}
@@ -147,6 +149,17 @@ module _ (board : List ℕ) (b : ℕ) (w : Worker) (ok : Accepted (bucketAt boar
         sound = λ kept. turn-sound (bucketAt board b) w ok;
       }
 
+-- it touches the same word whether it is told of the sleeper or of who is awake
+awake-keeps : {board : List ℕ} {b : ℕ} {w : Worker} {x : After Turned} → Keeps board b (awake w) x → Keeps board b w x
+awake-keeps {b = b} {w = w} k =
+    record {
+      long = k .long;
+      words = λ j other. k .words j (λ is. other (is ∙ ap (λ c. 8 * b + c) (touched-awake w)));
+      others = k .others;
+      buckets = k .buckets;
+      sound = λ kept. k .sound (awake-kept w kept);
+    }
+
 -- a turn that is refused
 refused-keeps : (board : List ℕ) (b n : ℕ) (w : Worker) → Keeps board b w (after board (refusing n w))
 refused-keeps board b n w =
@@ -158,7 +171,8 @@ module _ (f : Floor) (board : List ℕ) (w : Worker) where
   unfolding turned
   turned-keeps n ok =
       by-cases (Keeps board (own f w) w) (eqb n 0) _ _
-      (λ is. done-keeps board (own f w) w (ok (eqb-true n 0 is)) _) (λ isnot. refused-keeps board (own f w) n w)
+      (λ is. awake-keeps (done-keeps board (own f w) (awake w) (awake-accepted _ w (ok (eqb-true n 0 is))) _))
+      (λ isnot. refused-keeps board (own f w) n w)
 
   -- each turn of a run
   pub each-keeps : (i : ℕ) → Keeps board (own f w) w (turned (eachNumber f board i w) f board w)

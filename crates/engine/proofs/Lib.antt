@@ -3,6 +3,7 @@ pub mod Buckets
 pub mod Cut
 pub mod Determined
 pub mod Few
+pub mod Firsts
 pub mod Keeps
 pub mod Numbers
 pub mod Parts
@@ -10,6 +11,7 @@ pub mod Refused
 pub mod Reports
 pub mod Retiring
 pub mod Sizes
+pub mod Sleeping
 pub mod Stops
 pub mod Tallies
 pub mod Turns

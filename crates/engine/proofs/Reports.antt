@@ -7,11 +7,13 @@ use borrow.Author.Tests.{eqb-true, eqb-false}
 use Rattle.mark.proofs.Choices.{by-cases}
 use Rattle.turn.specs.declared.Worker.{Worker}
 use Rattle.turn.specs.declared.Report.{Report}
+use Rattle.turn.specs.Asleep.{awake}
 use Rattle.turn.specs.Places.{turn}
 use Rattle.turn.specs.Turn.{Done, Turned, After, numberOf}
 use Rattle.turn.proofs.Sound.{Accepted}
 use Rattle.turn.proofs.Cells.{turn-long}
 use Rattle.turn.proofs.Effects.{turn-effect}
+use Rattle.turn.proofs.Asleep.{awake-accepted, effect-awake}
 use Rattle.turn.proofs.Numbers.{reportIn}
 use Rattle.engine.specs.declared.Floor.{Floor}
 use Rattle.engine.specs.declared.Seat.{Seat}
@@ -40,6 +42,12 @@ done-tells f board w ok =
       effect = turn-effect bucket w ok;
     }
 
+-- and tells the same whether it is told of the sleeper or of who is awake
+awake-tells :
+    {f : Floor} {board later : List ℕ} {w : Worker} {r : Report} → ReportTells f board (awake w) later r → ReportTells f board w later r
+awake-tells {w = w} {r = r} t =
+    record { bucket = t .bucket; before = t .before; after = t .after; effect = rw (← effect-awake w (r .action)) (t .effect) }
+
 -- every report that a turn answers tells of the board
 pub turn-tells :
     (board : List ℕ) (s : Seat) (w : Worker) (r : Report)
@@ -51,5 +59,5 @@ turn-tells board s w r =
     by-cases (λ (x : After Turned). x .handed .answer ≡ Done r → ReportTells (s .floor) board w (x .words) r) (eqb number 0) _ _
     (λ is told.
     let ok = turn-accepted (s .floor) board (s .listed) (s .worker) w (eqb-true number 0 is) .1 in
-    subst (ReportTells (s .floor) board w _) (ap (reportIn r) told) (done-tells (s .floor) board w ok))
+    subst (ReportTells (s .floor) board w _) (ap (reportIn r) told) (awake-tells (done-tells (s .floor) board (awake w) (awake-accepted _ w ok))))
     (λ isnot told. absurd (eqb-false number 0 isnot (ap numberOf told)))

@@ -5,15 +5,16 @@ use mathlib.Core.Path.{_≡_, refl, sym, ap, _∙_}
 use mathlib.Core.List.{List, [], _∷_, _++_, append-nil}
 use native.Mathlib.Nat.{add-zero}
 use native.Mathlib.Omega.{arith}
-use lib.ListN.{length, getD, set, drop, drop-of-length-le}
+use lib.ListN.{length, getD, drop, drop-of-length-le}
 use borrow.Author.Tests.{ne-eqb}
 use Rattle.turn.specs.declared.Worker.{Worker}
+use Rattle.turn.specs.Asleep.{awake}
 use Rattle.turn.specs.Places.{turn}
 use Rattle.turn.specs.Turn.{After}
 use Rattle.engine.specs.declared.Floor.{Floor}
 use Rattle.engine.specs.declared.Seat.{Seat}
 use Rattle.engine.specs.Refusals.{bucketFor, wrongSizes, eachNumber, turnNumber}
-use Rattle.engine.specs.Calls.{Ran, reportOn, turnDone, turned, turnCall, standing, blank, tallied, runFrom}
+use Rattle.engine.specs.Calls.{Ran, reportOn, turnDone, turned, turnCall, standing, blank, afterTurn, tallied, runFrom}
 
 -- the record of the worker whose turn it is
 abbrev pub mover : ℕ → After Ran → Worker
@@ -28,9 +29,9 @@ module _ (f : Floor) where
   abbrev pub doneBy : ℕ → After Ran → After Ran
   doneBy t s =
       let w = mover t s in
-      let step = turn (bucketFor f (s .words) (w .key)) w in
+      let step = turn (bucketFor f (s .words) (w .key)) (awake w) in
       let report = reportOn f (s .words) w step in
-      standing (turnDone f (s .words) w step .words) (set (s .handed .records) t (step .stepped .worker))
+      standing (turnDone f (s .words) w step .words) (afterTurn (s .handed .records) t (step .stepped .worker))
       (tallied (w .place) report (s .handed .totals)) report 0
 
   -- the turns of a list are done, one after another

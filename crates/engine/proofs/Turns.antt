@@ -8,6 +8,7 @@ use lib.ListN.{take, drop}
 use Rattle.turn.specs.declared.Worker.{Worker}
 use Rattle.turn.specs.declared.Tried.{Tried}
 use Rattle.turn.specs.Turn.{Turned, After, after, refusing, refused, done, tryTurn, turnRefusal, answered}
+use Rattle.turn.specs.Asleep.{awake}
 use Rattle.turn.specs.Places.{Step, turn}
 use Rattle.engine.specs.declared.Floor.{Floor}
 use Rattle.engine.specs.Board.{bucketOf, bucketAt, withBucket}
@@ -33,12 +34,12 @@ module _ (f : Floor) (board : List ℕ) (w : Worker) where
 
   -- a turn that is done on the worker's bucket, as it is tried
   abbrev there : Tried
-  there = done (turn bucket w .stepped .worker) (reportOn f board w (turn bucket w)) (w .place)
+  there = done (turn bucket (awake w) .stepped .worker) (reportOn f board w (turn bucket (awake w))) (w .place)
 
   both :
       (t : Bool)
-      → onBoard board (own f w) (cond t (after (turn bucket w .bucket) there) (after bucket (refused number w)))
-      ≡ cond t (after (turnDone f board w (turn bucket w) .words) there) (after board (refused number w))
+      → onBoard board (own f w) (cond t (after (turn bucket (awake w) .bucket) there) (after bucket (refused number w)))
+      ≡ cond t (after (turnDone f board w (turn bucket (awake w)) .words) there) (after board (refused number w))
   both true = refl
   both false = ap (λ (l : List ℕ). after l (refused number w)) (put-same board (own f w))
 
@@ -66,7 +67,7 @@ answering x = after (x .words) (answered (x .handed))
 -- what was tried is the call's turn
 module _ (n : ℕ) (f : Floor) (board : List ℕ) (w : Worker) where
   abbrev step : Step
-  step = turn (bucketFor f board (w .key)) w
+  step = turn (bucketFor f board (w .key)) (awake w)
 
   either-way :
       (t : Bool)

@@ -2,14 +2,15 @@
 -- refused call answers its number and leaves everything as it came (§7.1).
 use Prim.Native.Nat.{ℕ, _+_, _*_}
 use mathlib.Core.Bool.{Bool, false, cond}
-use mathlib.Core.List.{List, [], _∷_}
+use mathlib.Core.List.{List, [], _∷_, map}
 use lib.ListN.{length, getD, set, replicate}
-use lib.Dec.{eqb, leb}
+use lib.Dec.{eqb}
 use Rattle.turn.specs.declared.Worker.{Worker}
 use Rattle.turn.specs.declared.Action.{Action}
 use Rattle.turn.specs.declared.Action.the-variants.{Read, Store, Won, Lost}
 use Rattle.turn.specs.declared.Report.{Report}
 use Rattle.turn.specs.Worker.{freePlace, idle, lookFor, insertOf, removeOf}
+use Rattle.turn.specs.Asleep.{capped, awake, slept}
 use Rattle.turn.specs.Places.{Step, turn}
 use Rattle.turn.specs.declared.Tried.{Tried}
 use Rattle.turn.specs.declared.Retired.{Retired}
@@ -91,14 +92,15 @@ reportOn f board w s = reportOf (bucketOf (w .key) (f .buckets)) (bucketFor f bo
 abbrev pub turnDone : Floor → List ℕ → Worker → Step → After Turned
 turnDone f board w s = after (withBucket board (bucketOf (w .key) (f .buckets)) (s .bucket)) (doing s (reportOn f board w s))
 
--- §7.1: what a turn with this number of refusal, or 0, comes to
+-- §7.1, §20.2: what a turn with this number of refusal, or 0, comes to; whoever has it is awake
 unfoldable pub turned : ℕ → Floor → List ℕ → Worker → After Turned
-turned number f board w = cond (eqb number 0) (turnDone f board w (turn (bucketFor f board (w .key)) w)) (after board (refusing number w))
+turned number f board w =
+    cond (eqb number 0) (turnDone f board w (turn (bucketFor f board (w .key)) (awake w))) (after board (refusing number w))
 
 -- the same without an enum
 unfoldable pub tried : ℕ → Floor → List ℕ → Worker → After Tried
 tried number f board w =
-    let s = turn (bucketFor f board (w .key)) w in
+    let s = turn (bucketFor f board (w .key)) (awake w) in
     cond (eqb number 0)
     (after (turnDone f board w s .words) (done (s .stepped .worker) (reportOn f board w s) (w .place)))
     (after board (refused number w))
@@ -151,11 +153,7 @@ tallied place r t =
       full = t .full + cond (r .full) 1 0;
     }
 
--- a count is a number of 32 bits, and stays at the highest one
-abbrev pub capped : ℕ → ℕ
-capped n = cond (leb n 4294967295) n 4294967295
-
--- each of the totals so; those of a run never come there
+-- each of the totals is a count of 32 bits, which stays at the highest number; those of a run never come there
 abbrev pub cappedTotals : Totals → Totals
 cappedTotals t = record { turns = capped (t .turns); changes = capped (t .changes); lost = capped (t .lost); full = capped (t .full) }
 
@@ -180,7 +178,7 @@ unbegun board records stop = standing board records noTurns noReport stop
 
 -- what stands for a record past the end of the list, whose worker has no turn (decision 40)
 abbrev pub blank : Worker
-blank = record { kind = 0; place = 0; key = 0; ticket = 0; slot = 0; word = 0; held = 0; seen = 0 }
+blank = record { kind = 0; place = 0; key = 0; ticket = 0; slot = 0; word = 0; held = 0; seen = 0; asleep = 0 }
 
 -- §3.1: a worker's record in a list
 abbrev pub recordIn : List Worker → ℕ → Worker
@@ -190,10 +188,19 @@ recordIn records i = getD records i blank
 abbrev pub seatIn : Floor → List Worker → ℕ → Seat
 seatIn f records i = record { floor = f; listed = length records; worker = i }
 
+-- §20.2: the records that a turn of worker i leaves which is done: its own becomes w, and whoever else is busy has slept one turn more
+abbrev pub afterTurn : List Worker → ℕ → Worker → List Worker
+afterTurn records i w = set (map slept records) i w
+
+-- §7.1: what a turn of worker i leaves of the records, done or refused
+abbrev pub recordsLeft : List Worker → ℕ → Worker → Answer → List Worker
+recordsLeft records i w (Refused number) = records
+recordsLeft records i w (Done report) = afterTurn records i w
+
 -- §4.10: what the turn of worker t came to: the run goes on from there, or it stops and leaves what was done before
 abbrev pub goOn : (After Ran → After Ran) → ℕ → ℕ → List ℕ → Worker → Answer → Ran → After Ran
 goOn rest t place board w (Refused number) r = standing board (r .records) (r .totals) (r .last) number
-goOn rest t place board w (Done report) r = rest (standing board (set (r .records) t w) (tallied place report (r .totals)) report 0)
+goOn rest t place board w (Done report) r = rest (standing board (afterTurn (r .records) t w) (tallied place report (r .totals)) report 0)
 
 -- one turn of worker t, and then the rest
 abbrev pub oneTurn : (After Ran → After Ran) → Floor → ℕ → Worker → After Ran → After Ran

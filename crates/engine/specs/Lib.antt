@@ -4,3 +4,4 @@ pub mod Calls
 pub mod Promises
 pub mod Reports
 pub mod Room
+pub mod Firsts

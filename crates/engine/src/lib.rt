@@ -85,6 +85,7 @@ pub fn blank() -> Worker
         word: 0,
         seen: 0,
         ticket: 0,
+        asleep: 0,
         kind: 0,
         place: 0,
         slot: 0,

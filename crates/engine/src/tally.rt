@@ -1,12 +1,12 @@
 // What turns are counted by.
 ghost use mathlib.Core.Path.{_≡_};
-ghost use Prim.Native.Nat.{_+_};
 ghost use mathlib.Core.Bool.{cond};
-ghost use Rattle.engine.specs.Calls.{changes, losses, capped};
+ghost use Rattle.engine.specs.Calls.{changes, losses};
 ghost use Rattle.engine.specs.Promises.{NoneCounted, TurnCounted};
 use crate::Totals;
 use turn::Action;
 use turn::Report;
+use turn::sleep;
 
 // §4.10: no turn is counted yet.
 pub fn nothing() -> Totals
@@ -64,25 +64,15 @@ fn rounds(full: bool) -> u32
     0
 }
 
-// A count with some more; at the highest number it stays.
-fn more(count: u32, some: u32) -> u32
-    ensures { λ r. ⌜ r ≡ capped (count + some) ⌝ }
-{
-    if count <= u32::MAX - some {
-        return count + some;
-    }
-    u32::MAX
-}
-
 // §4.10: the totals with one turn more, done at a place.
 pub fn add(totals: Totals, place: u8, report: Report) -> Totals
     ensures { λ r. ⌜ TurnCounted totals place report r ⌝ }
 {
     let action = report.action;
     Totals {
-        turns: more(totals.turns, 1),
-        changes: more(totals.changes, changes(place, action)),
-        lost: more(totals.lost, losses(action)),
-        full: more(totals.full, rounds(report.full)),
+        turns: sleep::more(totals.turns, 1),
+        changes: sleep::more(totals.changes, changes(place, action)),
+        lost: sleep::more(totals.lost, losses(action)),
+        full: sleep::more(totals.full, rounds(report.full)),
     }
 }

@@ -26,10 +26,9 @@ use types.Part.{agg}
 use sound.WpLaws.{fmOf}
 use denote.RattleType.{RattleType, owns}
 use denote.Laws.{Is, Tells, valss}
-use denote.Plain.{uint-vals, uint-tells}
 use denote.Builtin.{u64, usize, SliceRefMutOf}
 use denote.Ref.{now}
-use denote.Slice.{sliceTy, MutSlice, slice-vals, mut-slice-tells}
+use denote.Slice.{sliceTy, MutSlice, slice-vals}
 use denote.Signature.{plain}
 use denote.Steps.{only, owned, nothing}
 use denote.Struct.Struct.{AreAll, layout}
@@ -39,7 +38,7 @@ use denote.Struct.Laws as LL
 use denote.Triple.Spec.{Meets, tripleOf}
 use denote.Triple.Clauses.{Clauses, Ended, closing}
 use denote.Triple.Statement.{Triple}
-use denote.Triple.Walked.{says, Stays, gave-slice, stay-none, goes-gave-slice, goes-none}
+use denote.Triple.Walked.{says}
 use denote.Exit.{yes}
 use Rattle.turn.specs.declared.Worker.{Worker}
 use Rattle.engine.specs.declared.Floor.{Floor}
@@ -54,6 +53,7 @@ use Rattle.engine.proofs.Seat.Laws as S′
 use Rattle.floor.proofs.Plain.{Plain}
 use Rattle.floor.proofs.Walk.{walk-closes, pointer, var, sets, gets, loc, gone, full, span, cited-call, relends, part}
 use Rattle.floor.proofs.Records.{row, val, vals, typed, arg-worker, seat-vals, seat-is, seat-typed, arg-seat}
+use Rattle.floor.proofs.ForWorker.{for-worker, stayed, gone-on, spelled, tells}
 use Rattle.floor.proofs.Leaves.{Takes, Puts, take-call, put-call}
 use Rattle.floor.proofs.list.take_at.Symbol as take-def
 use Rattle.floor.proofs.list.put_at.Symbol as put-def
@@ -121,16 +121,7 @@ module _ (R : Plain) (O : Handed R) where
   }
 
   abbrev pub ended : Ended
-  ended = record {
-    signature = record {
-      lifetimes = 2;
-      outlives = [];
-      params = SliceRefMutOf (0 ∷ []) tt (plain (λ _. u64)) (λ _. tt) ∷ SliceRefMutOf (1 ∷ []) tt (plain (λ _. row)) (λ _. tt) ∷ plain
-          (λ _. F.the-row) ∷ plain (λ _. usize) ∷ [];
-      result = plain (λ _. R .row);
-    };
-    kept = (yes, (yes, (yes, (yes, tt))));
-  }
+  ended = for-worker (R .row)
 
   -- the core's contract, and the function's own
   abbrev pub inner : {M : Type 1} (𝓤 : URA M) → Inner → Clauses 𝓤 core-ended
@@ -170,29 +161,13 @@ module _ (R : Plain) (O : Handed R) where
         (seq (assign (place 0 []) (rvOpd (copy (place 8 (field 1 ∷ []))))) return)))))))))));
   }
 
-  abbrev stayed : Stays (ended .signature .params) (ended .kept)
-  stayed = (
-    gave-slice (0 ∷ []) tt (plain (λ _. u64)),
-    (gave-slice (1 ∷ []) tt (plain (λ _. row)), (stay-none (λ _. F.the-row) yes, (stay-none (λ _. usize) yes, tt))),
-  )
-
   pub act-meets : {M : Type 1} (𝓤 : URA M) (H : Heap 𝓤) (A : Atoms 𝓤) → Given 𝓤 H A → (mem : Memory → SProp 𝓤) (run : Routine
       → Fun 𝓤) (𝓣 : Tables 𝓤 H) (nm : Name) (Core : Inner) (Act : Outer) → Follows Core Act
       → Takes 𝓤 H A mem run (𝓣 .C) → Triple 𝓤 (𝓣 .C nm) (tripleOf 𝓤 H A (core-ended .signature) (closing 𝓤 H A core-ended (inner 𝓤 Core)))
       → Puts 𝓤 H A mem run (𝓣 .C)
       → Meets 𝓤 H A (ended .signature) (WpFn 𝓤 H (𝓣 .C) (𝓣 .Λ) (function nm)) (closing 𝓤 H A ended (outer 𝓤 Act))
-  act-meets 𝓤 H A W mem run 𝓣 nm Core Act follows takes cores puts = walk-closes 𝓤 H A W ended stayed (
-    goes-gave-slice 𝓤 H A W 2 0 tt (plain (λ _. u64)),
-    (
-      goes-gave-slice 𝓤 H A W 2 1 tt (plain (λ _. row)),
-      (goes-none 𝓤 H A W 2 (λ _. F.the-row) yes (λ κs x f. refl), (goes-none 𝓤 H A W 2 (λ _. usize) yes (λ κs x f. refl), tt)),
-    ),
-  )
-      (outer 𝓤 Act) (function nm) 𝓣 (λ κs. (slice-vals, (slice-vals, (LL.vals F.the-type F′.the-laws, (uint-vals w64, tt)))))
-      (λ κs. (
-        mut-slice-tells (named 0) (κs .0) u64,
-        (mut-slice-tells (named 1) (κs .1 .0) row, (LL.tells F.the-type F′.the-laws, (uint-tells w64, tt))),
-      )) (λ κs qs bounds a g are Post ends.
+  act-meets 𝓤 H A W mem run 𝓣 nm Core Act follows takes cores puts = walk-closes 𝓤 H A W ended stayed (gone-on 𝓤 H A W)
+      (outer 𝓤 Act) (function nm) 𝓣 spelled tells (λ κs qs bounds a g are Post ends.
       let bs = a .0 .now in let ys = a .1 .0 .now in let f = a .1 .1 .0 in let i = a .1 .1 .1 .0 in
       let v : ℕ → ℕ → ℕ = loc 16 in
       let seat : Seat = seatIn f ys i in

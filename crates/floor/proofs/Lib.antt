@@ -1,10 +1,12 @@
 pub mod Acts
+pub mod Beside
 pub mod Determined
+pub mod ForWorker
+pub mod Laps
 pub mod Leaves
 pub mod Lend
 pub mod Numbers
 pub mod Opening
-pub mod Idled
 pub mod Plain
 pub mod Records
 pub mod Refused

@@ -3,7 +3,10 @@
 use Prim.Native.Nat.{ℕ}
 use mathlib.Core.Path.{_≡_, refl, ap, _∙_}
 use mathlib.Core.List.{List}
+use lib.Dec.{eqb}
 use lib.ListN.{length, set}
+use lib.Seq.{set-getD}
+use Rattle.mark.proofs.Choices.{by-cases}
 use Rattle.turn.specs.declared.Worker.{Worker}
 use Rattle.turn.specs.declared.Said.{Said}
 use Rattle.turn.specs.declared.Tried.{Tried}
@@ -14,15 +17,19 @@ use Rattle.engine.specs.declared.Seat.{Seat}
 use Rattle.engine.specs.declared.Counted.{Counted}
 use Rattle.engine.specs.declared.Counted.the-variants.{Refusal, Lots}
 use Rattle.engine.specs.Refusals.{turnNumber}
-use Rattle.engine.specs.Calls.{recordIn, seatIn, tryCall, turnCall, retireCall, countedNumber}
+use Rattle.engine.specs.Calls.{blank, recordIn, seatIn, tried, tryCall, turnCall, recordsLeft, retireCall, countedNumber}
 use Rattle.engine.specs.Promises.{TurnTried, WorkerRetired, CountDone}
+use Rattle.engine.specs.Firsts.{firsts}
 use Rattle.engine.proofs.Numbers.{turn-number}
 use Rattle.engine.proofs.Turns.{tried-is-turned}
+use Rattle.engine.proofs.Firsts.{firsts-none}
 use Rattle.floor.specs.declared.TurnOutcome.{TurnOutcome}
 use Rattle.floor.specs.declared.CountOutcome.{CountOutcome}
 use Rattle.floor.specs.Told.{turnTold, countTold}
-use Rattle.floor.specs.Calls.{OnList, onList, sayIn, turnIn}
+use Rattle.floor.specs.Lent.{beside}
+use Rattle.floor.specs.Calls.{OnList, onList, stepIn, sleepers, sayIn, turnIn}
 use Rattle.floor.specs.Promises.{TurnLeft, RetireLeft, CountLeft}
+use Rattle.floor.proofs.Beside.{all-beside}
 
 -- the number of a turn's answer is the one that crosses
 told-number : (a : Answer) → turnTold a .refusal ≡ numberOf a
@@ -42,15 +49,43 @@ put-back {D} {R} worker rest core board records f i w o board′ records′ e₁
     let put : After D → After (OnList R) = λ x. after (x .words) (onList (set records i (worker (x .handed))) (rest (x .handed))) in
     rw (e₃, ← e₁) (ap put e₂)
 
--- a turn as it is tried
-pub says-in :
+-- a turn as far as it concerns its own worker
+pub steps-in :
     (board : List ℕ) (records : List Worker) (f : Floor) (i : ℕ) (w : Worker) (o : Tried) (board′ : List ℕ) (records′ : List Worker)
     → w ≡ recordIn records i
     → TurnTried board (seatIn f records i) w board′ o
     → records′ ≡ set records i (o .worker)
-    → after board′ (onList records′ (o .said)) ≡ sayIn board records f i
-says-in board records f i w o board′ records′ e₁ e₂ e₃ =
+    → after board′ (onList records′ (o .said)) ≡ stepIn board records f i
+steps-in board records f i w o board′ records′ e₁ e₂ e₃ =
     put-back (λ (x : Tried). x .worker) (λ (x : Tried). x .said) tryCall board records f i w o board′ records′ e₁ (e₂ .whole) e₃
+
+-- the others sleep where it is done, and where it is refused the worker's own record is put back as it was
+rest-sleep :
+    (board : List ℕ) (records : List Worker) (f : Floor) (i : ℕ)
+    → let x = tryCall board (seatIn f records i) (recordIn records i) .handed in
+    firsts (beside i) (sleepers (x .said .refusal) (length records)) (set records i (x .worker)) ≡ recordsLeft records i (x .worker) (answerOf (x .said))
+unfolding tryCall tried
+rest-sleep board records f i =
+    let n = turnNumber f board (length records) i (recordIn records i) in
+    by-cases
+    (λ (x : After Tried).
+    firsts (beside i) (sleepers (x .handed .said .refusal) (length records)) (set records i (x .handed .worker))
+    ≡ recordsLeft records i (x .handed .worker) (answerOf (x .handed .said)))
+    (eqb n 0) _ _ (λ is. all-beside i _ records)
+    (λ isnot. rw (isnot, set-getD records i blank) (firsts-none (beside i) records))
+
+-- a turn as it is tried: a step of its own worker, and then the others
+pub says-in :
+    (board : List ℕ) (records : List Worker) (f : Floor) (i : ℕ) (board′ : List ℕ) (between records′ : List Worker) (said : Said) (count : ℕ)
+    → after board′ (onList between said) ≡ stepIn board records f i
+    → count ≡ sleepers (said .refusal) (length records)
+    → records′ ≡ firsts (beside i) count between
+    → after board′ (onList records′ said) ≡ sayIn board records f i
+says-in board records f i board′ between records′ said count e₁ e₂ e₃ =
+    let x = tryCall board (seatIn f records i) (recordIn records i) in
+    let go : After (OnList Said) → After (OnList Said) = λ y.
+    after (y .words) (onList (firsts (beside i) (sleepers (y .handed .answer .refusal) (length records)) (y .handed .records)) (y .handed .answer)) in
+    rw (e₃, e₂) (ap go e₁ ∙ ap (λ (ws : List Worker). after (x .words) (onList ws (x .handed .said))) (rest-sleep board records f i))
 
 -- a turn: what it says, told
 pub turn-left :
@@ -65,7 +100,7 @@ turn-left board records f i board′ records′ said r e₁ e₂ =
     let tell : After (OnList Said) → After (OnList TurnOutcome) =
     λ x. after (x .words) (onList (x .handed .records) (turnTold (answerOf (x .handed .answer)))) in
     let put : After Turned → After (OnList TurnOutcome) =
-    λ x. after (x .words) (onList (set records i (x .handed .worker)) (turnTold (x .handed .answer))) in
+    λ x. after (x .words) (onList (recordsLeft records i (x .handed .worker) (x .handed .answer)) (turnTold (x .handed .answer))) in
     let whole : after board′ (onList records′ r) ≡ turnIn board records f i =
     rw e₂ (ap tell e₁ ∙ ap put (tried-is-turned n f board w)) in
     record {

@@ -31,7 +31,7 @@ module _ (board : List ℕ) (records : List Worker) (f : Floor) (i : ℕ) where
       (number ≡ 0 → ⊥)
       → turnIn board records f i ≡ after board (onList records (turnTold (Refused number)))
   desk-turn-refused some =
-      rw (engine.turn-refused board (seatIn f records i) (recordIn records i) some, set-getD records i blank)
+      rw (engine.turn-refused board (seatIn f records i) (recordIn records i) some)
 
   -- a retiring
   pub desk-retire-refused :

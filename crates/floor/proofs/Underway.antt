@@ -6,20 +6,21 @@ use mathlib.Core.List.{List, _∷_}
 use native.Mathlib.Omega.{arith}
 use native.Mathlib.Numerals.{add-one}
 use lib.Dec.{eqb, ltb}
-use lib.ListN.{length, getD, set, drop}
-use lib.Seq.{drop-cons, set-getD}
+use lib.ListN.{length, getD, drop}
+use lib.Seq.{drop-cons}
 use borrow.Author.Tests.{eqb-true, eqb-false, lt-ltb, ltb-false}
 use Rattle.mark.proofs.Choices.{passes, by-cases}
 use Rattle.turn.specs.declared.Worker.{Worker}
 use Rattle.turn.specs.declared.Said.{Said}
 use Rattle.turn.specs.declared.Report.{Report}
 use Rattle.turn.specs.declared.Tried.{Tried}
-use Rattle.turn.specs.Turn.{After, after, noReport, refused, done}
+use Rattle.turn.specs.Turn.{After, after, noReport, refused, done, answerOf}
+use Rattle.turn.specs.Asleep.{awake}
 use Rattle.turn.specs.Places.{Step, turn}
 use Rattle.engine.specs.declared.Floor.{Floor}
 use Rattle.engine.specs.Refusals.{wrongSizes, bucketFor, eachNumber, turnNumber, runRefusal, runNumber}
 use Rattle.engine.specs.Room.{Few}
-use Rattle.engine.specs.Calls.{Ran, blank, reportOn, recordIn, turnDone, tried, tryCall, noTurns, standing, unbegun, runFrom, runCall}
+use Rattle.engine.specs.Calls.{Ran, reportOn, recordIn, turnDone, tried, tryCall, afterTurn, recordsLeft, noTurns, standing, unbegun, runFrom, runCall}
 use Rattle.engine.proofs.Few.{few-more, few-exact}
 use Rattle.engine.proofs.Stops.{run-over, next-done, next-refused}
 use Rattle.floor.specs.declared.run.Running.{Running}
@@ -128,7 +129,7 @@ module _ (f : Floor) (ts : List ℕ) where
 
       -- the step of the turn, and what it reports
       abbrev s : Step
-      s = turn (bucketFor f board (w .key)) w
+      s = turn (bucketFor f board (w .key)) (awake w)
 
       abbrev report : Report
       report = reportOn f board w s
@@ -137,8 +138,8 @@ module _ (f : Floor) (ts : List ℕ) where
       abbrev Leaves : After Tried → Type 0
       Leaves x =
           length (x .words) ≡ length board
-          → length (set records t (x .handed .worker)) ≡ length records
-          → Underway (goneOn r (x .handed .said)) (x .words) (set records t (x .handed .worker))
+          → length (recordsLeft records t (x .handed .worker) (answerOf (x .handed .said))) ≡ length records
+          → Underway (goneOn r (x .handed .said)) (x .words) (recordsLeft records t (x .handed .worker) (answerOf (x .handed .said)))
 
       leaves : (b : Bool) → eqb turn-of 0 ≡ b
           → Leaves (cond b (after (turnDone f board w s .words) (done (s .stepped .worker) report (w .place))) (after board (refused turn-of w)))
@@ -151,10 +152,10 @@ module _ (f : Floor) (ts : List ℕ) where
             end = under .end;
             within = rw next (omega arith);
             comes = rw (next, exact) (sym (next-done f t (drop (i + 1) ts) now-stands (sym each ∙ eqb-true turn-of 0 is)) ∙ sym from-here ∙ under .comes);
-            going = λ more. record { right = after-it (turnDone f board w s .words) (set records t (s .stepped .worker)) same₀ same₁; short = here .short; few = rw (next, exact) counted };
+            going = λ more. record { right = after-it (turnDone f board w s .words) (afterTurn records t (s .stepped .worker)) same₀ same₁; short = here .short; few = rw (next, exact) counted };
           }
       leaves false isnot same₀ same₁ =
-          rw (isnot, set-getD records t blank)
+          rw isnot
           (record {
             end = under .end;
             within = omega (arith, under .end);

@@ -1,15 +1,17 @@
 -- The calls on the lent list: what they leave on the board and in the list, and what they answer. An opening is the engine's openCall on
 -- the list.
 use Prim.Native.Nat.{ℕ}
+use mathlib.Core.Bool.{cond}
 use mathlib.Core.List.{List}
+use lib.Dec.{eqb}
 use lib.ListN.{length, set}
 use Rattle.turn.specs.declared.Worker.{Worker}
 use Rattle.turn.specs.declared.Said.{Said}
-use Rattle.turn.specs.Turn.{After, after}
+use Rattle.turn.specs.Turn.{After, after, answerOf}
 use Rattle.engine.specs.declared.Floor.{Floor}
 use Rattle.engine.specs.declared.Seat.{Seat}
 use Rattle.engine.specs.declared.Started.{Started}
-use Rattle.engine.specs.Calls.{Ran, recordIn, seatIn, tryCall, turnCall, retireCall, runCall}
+use Rattle.engine.specs.Calls.{Ran, recordIn, seatIn, tryCall, turnCall, recordsLeft, retireCall, runCall}
 use Rattle.floor.specs.declared.Outcome.{Outcome}
 use Rattle.floor.specs.declared.TurnOutcome.{TurnOutcome}
 use Rattle.floor.specs.declared.RunOutcome.{RunOutcome}
@@ -30,17 +32,27 @@ startIn start records f i =
     let x = start (seatIn f records i) (recordIn records i) in
     onList (set records i (x .worker)) (startTold x)
 
--- one turn as it is tried: the record goes back into the list
-abbrev pub sayIn : List ℕ → List Worker → Floor → ℕ → After (OnList Said)
-sayIn board records f i =
+-- one turn as far as it concerns its own worker: the record goes back into the list
+abbrev pub stepIn : List ℕ → List Worker → Floor → ℕ → After (OnList Said)
+stepIn board records f i =
     let x = tryCall board (seatIn f records i) (recordIn records i) in
     after (x .words) (onList (set records i (x .handed .worker)) (x .handed .said))
 
--- one turn: the record goes back into the list
+-- §20.2: of so many records those that a turn with this number of refusal, or 0, goes over: all, or none
+abbrev pub sleepers : ℕ → ℕ → ℕ
+sleepers number listed = cond (eqb number 0) listed 0
+
+-- one turn as it is tried
+abbrev pub sayIn : List ℕ → List Worker → Floor → ℕ → After (OnList Said)
+sayIn board records f i =
+    let x = tryCall board (seatIn f records i) (recordIn records i) in
+    after (x .words) (onList (recordsLeft records i (x .handed .worker) (answerOf (x .handed .said))) (x .handed .said))
+
+-- one turn
 abbrev pub turnIn : List ℕ → List Worker → Floor → ℕ → After (OnList TurnOutcome)
 turnIn board records f i =
     let x = turnCall board (seatIn f records i) (recordIn records i) in
-    after (x .words) (onList (set records i (x .handed .worker)) (turnTold (x .handed .answer)))
+    after (x .words) (onList (recordsLeft records i (x .handed .worker) (x .handed .answer)) (turnTold (x .handed .answer)))
 
 -- a retiring: the record goes back into the list, and the number is handed back
 abbrev pub retireIn : List ℕ → List Worker → Floor → ℕ → After (OnList ℕ)

@@ -1,11 +1,10 @@
--- Records of the lent list that become idle.
-use Prim.Native.Nat.{ℕ, zero, suc}
-use mathlib.Core.List.{List, [], _∷_}
+-- A record of the lent list through a turn.
+use Prim.Native.Nat.{ℕ}
+use mathlib.Core.Bool.{cond}
+use lib.Dec.{eqb}
 use Rattle.turn.specs.declared.Worker.{Worker}
-use Rattle.turn.specs.Worker.{idle}
+use Rattle.turn.specs.Asleep.{slept}
 
--- the first so many records are idle, as far as the list goes
-unfoldable pub idled : ℕ → List Worker → List Worker
-idled zero ws = ws
-idled (suc n) [] = []
-idled (suc n) (w ∷ ws) = idle ∷ idled n ws
+-- §20.2: the record at a number, slept on through a turn of worker i, whose own stays
+abbrev pub beside : ℕ → ℕ → Worker → Worker
+beside i at w = cond (eqb at i) w (slept w)

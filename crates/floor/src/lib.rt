@@ -9,6 +9,7 @@ use engine::Plan;
 use engine::Seat;
 use engine::Totals;
 use turn::Worker;
+use turn::record;
 
 mod list; // records out of the list and back, and a turn of one of them
 mod run; // a run that is under way
@@ -78,7 +79,8 @@ pub extern "C" fn desk_open_floor(
 {
     let listed = records.len();
     let laid = engine::open_floor(board, floor, listed, plan);
-    list::make_idle(records, laid.idle);
+    let idle = record::idle();
+    list::put_all(records, idle, laid.idle);
     Outcome {
         floor: laid.floor,
         refusal: laid.refusal,

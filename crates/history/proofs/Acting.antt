@@ -1,18 +1,21 @@
 -- A turn, done or refused, on what demand 3 goes by. Assumes nothing.
 use Prim.Native.Nat.{ℕ}
+use mathlib.Core.Bool.{cond}
 use mathlib.Core.List.{List}
-use mathlib.Core.Path.{_≡_, refl, sym, ap, _∙_}
+use mathlib.Core.Path.{_≡_, refl, sym, ap, subst, _∙_}
 use native.Mathlib.Omega.{arith}
 use lib.Dec.{eqb}
-use lib.ListN.{length}
+use lib.ListN.{length, length-map}
 use borrow.Author.Tests.{eqb-true}
 use Rattle.mark.proofs.Choices.{by-cases, passes}
 use Rattle.turn.specs.declared.Worker.{Worker}
 use Rattle.turn.specs.Bucket.{cell, markCell}
+use Rattle.turn.specs.Asleep.{awake}
 use Rattle.turn.specs.Effects.{effectOf}
 use Rattle.turn.specs.Places.{Step, turn}
 use Rattle.turn.specs.Turn.{Turned, After, after, refusing}
 use Rattle.turn.proofs.Sound.{Accepted}
+use Rattle.turn.proofs.Asleep.{awake-accepted, turn-awake}
 use Rattle.turn.proofs.Cells.{turn-long}
 use Rattle.turn.proofs.Effects.{turn-moves, turn-went, turn-won-at, turn-aims}
 use Rattle.turn.proofs.Kept.{turn-idles}
@@ -21,14 +24,15 @@ use Rattle.engine.specs.Refusals.{wrongSizes, turnNumber}
 use Rattle.engine.specs.Calls.{reportOn, turnDone, turned, turnCall}
 use Rattle.engine.proofs.Sizes.{right-listed}
 use Rattle.engine.proofs.Keeps.{turn-accepted}
+use Rattle.engine.proofs.Sleeping.{record-awake, awake-after}
 use Rattle.engine.proofs.Reports.{done-tells}
 use Rattle.engine.proofs.Cut.{bucket-within, other-bucket}
 use Rattle.history.specs.Trace.{Turn, acted}
 use Rattle.history.specs.Counts.{isChange, isCommit, isClose}
-use Rattle.history.specs.History.{State, recordOf, turnBy, turnedAs, entryOf, turnEntry}
+use Rattle.history.specs.History.{State, listedOf, recordOf, turnBy, turnedAs, entryOf, turnEntry}
 use Rattle.history.proofs.Counts.{commit-is, close-is, change-is, turn-bumps}
 use Rattle.history.proofs.View.{Acts, Walk, stays, acts}
-use Rattle.history.proofs.States.{view, same-walk}
+use Rattle.history.proofs.States.{view}
 
 -- a turn leaves the mark word of every other bucket
 mark-there :
@@ -54,7 +58,7 @@ module _ (s : State) (i : ℕ) where
 
   -- its number of refusal
   abbrev pub number : ℕ
-  number = turnNumber (s .floor) (s .board) (length (s .records)) i w
+  number = turnNumber (s .floor) (s .board) (length (s .records)) i (listedOf s i)
 
   -- what it does on the bucket, and on the board
   abbrev does : Step
@@ -66,16 +70,32 @@ module _ (s : State) (i : ℕ) where
   abbrev pub entry : Turn
   entry = record { worker = i; was = w; report = reportOn (s .floor) (s .board) w does }
 
+  -- the record without its sleep is the one that has the turn
+  is-up : w ≡ awake (listedOf s i)
+  is-up = record-awake (s .records) i
+
+  -- done or refused, it is this
+  pub turned-is : turnBy s i ≡ cond (eqb number 0) done (after (s .board) (refusing number (listedOf s i)))
+  unfolding turnCall turned
+  turned-is = rw is-up
+
+  pub done-is : number ≡ 0 → turnBy s i ≡ done
+  done-is none = turned-is ∙ rw none
+
   -- where it is not refused, there is a record for each worker
   listed : number ≡ 0 → length (s .records) ≡ s .floor .workers
   unfolding turnNumber
   listed none = right-listed (s .floor) (s .board) _ (passes (wrongSizes (s .floor) (s .board) _) 0 _ none .0)
 
+  -- and it is accepted on its bucket
+  pub done-accepted : number ≡ 0 → Accepted (bucketAt (s .board) b) w
+  done-accepted none = rw is-up (awake-accepted _ _ (turn-accepted (s .floor) (s .board) (length (s .records)) i (listedOf s i) none .1))
+
   -- and it is done: it acts on what demand 3 goes by
   pub done-acts : number ≡ 0 → Acts (s .floor .buckets) (view s) (acted entry) (does .stepped .worker) (view (turnedAs s i done))
   done-acts none =
-      let known = turn-accepted (s .floor) (s .board) (length (s .records)) i w none in
-      let ok = known .1 in
+      let known = turn-accepted (s .floor) (s .board) (length (s .records)) i (listedOf s i) none in
+      let ok = done-accepted none in
       let bucket = bucketAt (s .board) b in
       let action = does .stepped .action in
       let tells = done-tells (s .floor) (s .board) w ok in
@@ -85,8 +105,8 @@ module _ (s : State) (i : ℕ) where
         closes = close-is w action (turn-won-at bucket w ok) (isClose (acted entry));
         changes = change-is w action (isChange (acted entry));
         bumps = commit-is w action (isCommit (acted entry)) ∙ sym (turn-bumps w action);
-        within = omega (arith, listed none, known .2);
-        records = refl;
+        within = rw (length-map (s .records) awake) (omega (arith, listed none, known .2));
+        records = awake-after (s .records) i (does .stepped .worker) (turn-awake bucket w ok (ap (λ (x : Worker). x .asleep) is-up));
         last = refl;
         bucket = refl;
         was = refl;
@@ -99,8 +119,8 @@ module _ (s : State) (i : ℕ) where
 
   -- done or refused, a turn is a walk of its entries
   pub turn-walk : Walk (s .floor .buckets) (view s) (turnEntry s i) 0 (view (turnedAs s i (turnBy s i)))
-  unfolding turnCall turned
   turn-walk =
-      by-cases (λ (x : After Turned). Walk (s .floor .buckets) (view s) (entryOf s i (x .handed .answer)) 0 (view (turnedAs s i x)))
-      (eqb number 0) done (after (s .board) (refusing number w))
-      (λ is. acts (done-acts (eqb-true number 0 is)) stays) (λ isnot. same-walk (s .floor .buckets) s i)
+      let Goes : After Turned → Type 0 = λ x. Walk (s .floor .buckets) (view s) (entryOf s i (x .handed .answer)) 0 (view (turnedAs s i x)) in
+      subst Goes (sym turned-is)
+      (by-cases Goes (eqb number 0) done (after (s .board) (refusing number (listedOf s i)))
+      (λ is. acts (done-acts (eqb-true number 0 is)) stays) (λ isnot. stays))

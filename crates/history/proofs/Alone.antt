@@ -25,12 +25,14 @@ use Rattle.history.specs.Trace.{Turn, Retiring, Entry, acted, retired, w
 use Rattle.history.specs.Counts.{oneIf}
 use Rattle.history.specs.InCall.{ownTurns}
 use Rattle.history.specs.Numbers.{OneOf}
-use Rattle.history.specs.History.{State, Call, recordOf, runOf, stateFrom, traceFrom}
+use Rattle.history.specs.History.{State, Call, run, recordOf, runOf, turnedAs, after, stateFrom, traceFrom}
 use Rattle.history.specs.Unbroken.{Unbroken}
 use Rattle.history.specs.Cells.{home}
 use Rattle.history.specs.HowLong.{Disturbs, Alone, EndsAlone, GoesOnFor, NeverEndsAlone}
 use Rattle.history.proofs.View.{new-record, old-record}
 use Rattle.history.proofs.States.{view}
+use Rattle.history.proofs.Acting.{done, entry}
+use Rattle.history.proofs.Listed.{up-is, idle-up, idle-listed}
 use Rattle.history.proofs.Steps.{Begins, Turns, Retires, stepOf, done-turns, calls-last}
 use Rattle.history.proofs.Account.{own-bucket, progress-is, was-home, still-home}
 use Rattle.history.proofs.Unrefused.{busy-moves, idle-stays, run-accepted}
@@ -214,11 +216,16 @@ module _ (A : List ℕ → ℕ → Worker → Type 0) (Q : Type 0) where
       idle-run :
           (m : ℕ) (x : After Ran) → Unbroken (stands x) → recordOf (stands x) i ≡ idle → x .handed .stop ≡ 0 → Idled m x (runFrom f (replicate m i) x)
       unfolding runFrom
-      idle-run zero x ok rests stop = record { idles = rests; within = omega arith; stops = inl stop }
+      idle-run zero x ok rests stop = record { idles = idle-listed (stands x) i ok under rests; within = omega arith; stops = inl stop }
       idle-run (suc m) x ok rests stop =
-          let six = idle-stays (stands x) ok i under rests in
+          let idles = idle-listed (stands x) i ok under rests in
+          let six = idle-stays (stands x) ok i under idles in
           rw (next-refused f i (replicate m i) x (λ none. omega (arith, six, none)))
-          (record { idles = rests; within = omega arith; stops = inr (inl six) })
+          (record { idles = idles; within = omega arith; stops = inr (inl six) })
+
+      -- a turn of a run leaves what the turn of a history does
+      done-stands : (x : After Ran) → turnedAs (stands x) i (done (stands x) i) ≡ stands (doneBy f i x)
+      done-stands x = rw (up-is (stands x) i)
 
       -- a busy one has turns until its call ends
       busy-run :
@@ -232,9 +239,9 @@ module _ (A : List ℕ → ℕ → Worker → Type 0) (Q : Type 0) where
       busy-run zero k x ok known stop had =
           inr (record { had = subst (λ (n : ℕ). A (ownBucket i (stands x)) n (recordOf (stands x) i)) (omega arith) had; turns = omega arith; stops = stop })
       busy-run (suc m) k x ok known stop had =
-          let none = busy-moves (stands x) ok i under (count .busy had) in
-          let act = done-turns (stands x) i (number-is (stands x) ok i none) in
-          let still = turn-unbroken (stands x) ok i (number-is (stands x) ok i none) in
+          let none = busy-moves (stands x) ok i under (λ rests. count .busy had (idle-up (stands x) i rests)) in
+          let act = subst (Turns (stands x) (entry (stands x) i)) (done-stands x) (done-turns (stands x) i (number-is (stands x) ok i none)) in
+          let still = subst Unbroken (done-stands x) (turn-unbroken (stands x) ok i (number-is (stands x) ok i none)) in
           rw (next-done f i (replicate m i) x none)
           (by (turn-went act known k had) (busy-run m (k + 1) (doneBy f i x) still (known-lasts .turns [] [] act known) refl)
           (λ rests. idle-run m (doneBy f i x) still rests refl))
@@ -280,7 +287,7 @@ module _ (A : List ℕ → ℕ → Worker → Type 0) (Q : Type 0) where
         ends-by (inr busy) = absurd (omega (arith, fewer _ _ _ (busy .had)))
         ends-by (inl rests) =
             record {
-              busy = count .busy had;
+              busy = λ rests. count .busy had (idle-up s i rests);
               idles = rests .1 .idles;
               within = omega (arith, rests .1 .within);
               stops = rests .1 .stops;
@@ -298,7 +305,7 @@ module _ (A : List ℕ → ℕ → Worker → Type 0) (Q : Type 0) where
             → GoesOnFor s i n
         goes-by n (inl rests) = absurd (never (rests .0))
         goes-by n (inr on) =
-            record { turns = omega (arith, on .turns); stops = on .stops; busy = count .busy (on .had) }
+            record { turns = omega (arith, on .turns); stops = on .stops; busy = λ rests. count .busy (on .had) (idle-up (after s (run (replicate n i))) i rests) }
 
         still-none : (rest : List Call) → Comes i (stateFrom s rest) (traceFrom s rest) → None (OwnEnd i) (traceFrom s rest)
         still-none rest (inl over) = absurd (never (over .0))

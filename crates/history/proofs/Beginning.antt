@@ -4,11 +4,12 @@ use mathlib.Core.List.{List, []}
 use mathlib.Core.Logic.{_⊎_, inl, inr}
 use mathlib.Core.Path.{_≡_, refl, ap, _∙_}
 use native.Mathlib.Omega.{arith}
-use lib.ListN.{length}
+use lib.ListN.{length, length-map}
 use Rattle.mark.specs.Word.{version, markOf, countMarks}
 use Rattle.mark.proofs.Slots.{slots, mark-past}
 use Rattle.turn.specs.declared.Worker.{Worker}
 use Rattle.turn.specs.Worker.{idle}
+use Rattle.turn.specs.Asleep.{awake}
 use Rattle.turn.specs.Bucket.{cell, markCell}
 use Rattle.turn.proofs.Lands.{elsewhere}
 use Rattle.engine.specs.Calls.{blank}
@@ -24,7 +25,7 @@ use Rattle.history.proofs.Charges.{stale}
 use Rattle.history.proofs.Counts.{onto}
 use Rattle.history.proofs.Good.{Good, walk-good}
 use Rattle.history.proofs.States.{view}
-use Rattle.history.proofs.Opened.{opened-is, opened-listed, opened-idle, opened-bucket}
+use Rattle.history.proofs.Opened.{idle-awake, opened-is, opened-listed, opened-idle, opened-bucket}
 use Rattle.history.proofs.Walking.{history-walk}
 
 -- a word that is a version alone has no mark
@@ -78,15 +79,15 @@ module _ (o : Opening) where
   tells b under = rw (opened-word b under) (empty-tells (o .plan .version) b (o .version-fits))
 
   -- no record counts for anything
-  counts-none : (f : Worker → ℕ) → f idle ≡ 0 → total f (opened o .records) ≡ 0
-  counts-none f none = rw (opened-is o) (total-none f idle none (length (o .lent .records)))
+  counts-none : (f : Worker → ℕ) → f idle ≡ 0 → total f (view (opened o) .records) ≡ 0
+  counts-none f none = rw (opened-is o, idle-awake (length (o .lent .records))) (total-none f idle none (length (o .lent .records)))
 
   -- an opened board is good, with nothing behind it
   pub opened-good : Good (o .plan .workers) (o .plan .buckets) (o .plan .version) (view (opened o)) [] 0
   unfolding total
   opened-good =
       record {
-        listed = opened-listed o;
+        listed = length-map (opened o .records) awake ∙ opened-listed o;
         kept = kept;
         tells = tells;
         tickets = omega (arith, counts-none inserting refl);

@@ -13,19 +13,23 @@ use Rattle.turn.specs.declared.Worker.{Worker}
 use Rattle.turn.specs.declared.Stepped.{Stepped}
 use Rattle.turn.specs.declared.Action.the-variants.{Read}
 use Rattle.turn.specs.Worker.{idle, lookFor, insertOf, removeOf}
+use Rattle.turn.specs.Asleep.{awake}
+use Rattle.turn.specs.Turn.{Turned, After}
 use Rattle.turn.specs.Bucket.{cell}
+use Rattle.turn.proofs.Asleep.{is-awake}
 use Rattle.engine.specs.declared.Floor.{Floor}
 use Rattle.engine.specs.declared.Started.{Started}
 use Rattle.engine.specs.Board.{bucketOf, bucketAt}
 use Rattle.engine.specs.Refusals.{spent}
-use Rattle.engine.specs.Calls.{blank, recordIn, spending, startCall, turned, turnCall}
+use Rattle.engine.specs.Calls.{blank, recordIn, spending, startCall}
 use Rattle.engine.proofs.Sizes.{right-listed}
-use Rattle.history.specs.History.{State, Opening, Call, Ticket, look, insert, remove, workersOf, recordOf, seatOf, turnBy, lookBy, insertBy, removeBy}
+use Rattle.history.specs.History.{State, Opening, Call, Ticket, look, insert, remove, workersOf, listedOf, recordOf, seatOf, turnBy, lookBy, insertBy, removeBy}
 use Rattle.history.specs.History.{startedAs, after, state, opened}
 use Rattle.history.specs.Unbroken.{Unbroken}
 use Rattle.history.specs.Cells.{home}
 use Rattle.history.specs.HowLong.{lookMost, removeMost, insertMost, IsIdle, EndsAlone, NeverEndsAlone, HasRoom, HasLot, StartsSo, IsDone, HowLong}
-use Rattle.history.proofs.Acting.{entry}
+use Rattle.history.proofs.Acting.{entry, done-is}
+use Rattle.history.proofs.Listed.{up-is}
 use Rattle.history.proofs.Histories.{stateFrom-then}
 use Rattle.history.proofs.Unrefused.{busy-moves, idle-starts}
 use Rattle.history.proofs.Unbroken.{state-unbroken, number-is}
@@ -44,12 +48,11 @@ use Rattle.history.proofs.Circling.{CircleAlone, circle-started, circle
 
 -- on an opened board a turn of a busy worker is done
 busy-done : (o : Opening) (calls : List Call) (i : ℕ) → i < workersOf o → (IsIdle (state o calls) i → ⊥) → IsDone (turnBy (state o calls) i)
-unfolding turnCall turned
 busy-done o calls i under busy =
     let s = state o calls in
     let ok = state-unbroken o calls in
     let none = number-is s ok i (busy-moves s ok i (omega (arith, under, state-workers o calls)) busy) in
-    (entry s i .report, rw none)
+    (entry s i .report, ap (λ (x : After Turned). x .handed .answer) (done-is s i none))
 
 -- ---- a look, as a call that can take so many turns
 
@@ -96,9 +99,9 @@ module _ (o : Opening) (calls : List Call) (i : ℕ) (rests : IsIdle (state o ca
   then-known c = subst Known (stateFrom-then (opened o) calls c) (state-known o (calls ++ (c ∷ [])))
 
   -- a start of v that is not late, on a floor of the same sizes
-  module _ (late : Bool) (v : Worker) (g : Floor) (early : late ≡ false) (workers : g .workers ≡ s .floor .workers) where
+  module _ (late : Bool) (v : Worker) (g : Floor) (early : late ≡ false) (up : v .asleep ≡ 0) (workers : g .workers ≡ s .floor .workers) where
     abbrev x : Started
-    x = startCall (s .board) (seatOf s i) (recordOf s i) late v g
+    x = startCall (s .board) (seatOf s i) (listedOf s i) late v g
 
     abbrev y : Started
     y = record { worker = v; floor = g; refusal = 0 }
@@ -109,7 +112,7 @@ module _ (o : Opening) (calls : List Call) (i : ℕ) (rests : IsIdle (state o ca
     taken = rw (idle-starts s (state-unbroken o calls) i under late rests early)
 
     record-is : recordOf (startedAs s i y) i ≡ v
-    record-is = getD-set-same (s .records) i v blank within
+    record-is = up-is (startedAs s i y) i ∙ ap awake (getD-set-same (s .records) i v blank within) ∙ is-awake v up
 
     module _ (ok : Unbroken (startedAs s i x)) (known : Known (startedAs s i x)) (A : List ℕ → ℕ → Worker → Type 0) (had : A (bucketAt (s .board) (home (g .buckets) v)) 0 v) where
       had-none : A (bucketAt (s .board) (home (g .buckets) (recordOf (startedAs s i y) i))) 0 (recordOf (startedAs s i y) i)
@@ -147,12 +150,12 @@ module _ (o : Opening) (calls : List Call) (i : ℕ) (rests : IsIdle (state o ca
 
   look-alone : (lot : ℕ) → StartsSo s i (lookBy s i lot) (λ t. EndsAlone t i lookMost)
   look-alone lot =
-      ends-so false (lookFor lot) (s .floor) refl refl (then-unbroken (look i lot)) (then-known (look i lot)) (λ b k w. Looked k w) (look-started lot)
+      ends-so false (lookFor lot) (s .floor) refl refl refl (then-unbroken (look i lot)) (then-known (look i lot)) (λ b k w. Looked k w) (look-started lot)
       lookMost (omega arith) look-goes look-fewer
 
   remove-alone : (lot : ℕ) → StartsSo s i (removeBy s i lot) (λ t. EndsAlone t i removeMost)
   remove-alone lot =
-      ends-so false (removeOf lot) (s .floor) refl refl (then-unbroken (remove i lot)) (then-known (remove i lot)) RemoveAlone
+      ends-so false (removeOf lot) (s .floor) refl refl refl (then-unbroken (remove i lot)) (then-known (remove i lot)) RemoveAlone
       (remove-started (bucket lot) lot) removeMost (omega arith) remove-goes remove-fewer
 
   module _ (lot : ℕ) (ticket : Ticket) (fresh : s .floor .last < ticket .number) where
@@ -169,13 +172,13 @@ module _ (o : Opening) (calls : List Call) (i : ℕ) (rests : IsIdle (state o ca
 
     insert-alone : HasRoom s lot ⊎ HasLot s lot → StartsSo s i (insertBy s i lot ticket) (λ t. EndsAlone t i insertMost)
     insert-alone room =
-        ends-so (spent (s .floor) (ticket .number)) (insertOf lot (ticket .number)) (spending (s .floor) (ticket .number)) early refl
+        ends-so (spent (s .floor) (ticket .number)) (insertOf lot (ticket .number)) (spending (s .floor) (ticket .number)) early refl refl
         (then-unbroken (insert i lot ticket)) (then-known (insert i lot ticket)) InsertAlone (insert-started (bucket lot) lot (ticket .number) (lets room))
         insertMost (omega arith) insert-goes insert-fewer
 
     insert-never : (HasRoom s lot ⊎ HasLot s lot → ⊥) → StartsSo s i (insertBy s i lot ticket) (λ t. NeverEndsAlone t i)
     insert-never none =
-        never-so (spent (s .floor) (ticket .number)) (insertOf lot (ticket .number)) (spending (s .floor) (ticket .number)) early refl
+        never-so (spent (s .floor) (ticket .number)) (insertOf lot (ticket .number)) (spending (s .floor) (ticket .number)) early refl refl
         (then-unbroken (insert i lot ticket)) (then-known (insert i lot ticket)) CircleAlone (circle-started (bucket lot) lot (ticket .number) (λ lets. none (finds lets)))
         circle-goes
 

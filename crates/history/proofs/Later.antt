@@ -13,19 +13,31 @@ pub data CutLast (past : List Entry) (d : Entry) (before : List Entry) (e : Entr
   last : before ≡ past → e ≡ d → CutLast past d before e
   sooner : (later : List Entry) → past ≡ before ++ (e ∷ later) → CutLast past d before e
 
+-- the same, with what came since then
+pub data CutSince (past : List Entry) (d : Entry) (before : List Entry) (e : Entry) (later : List Entry) : Type 0 where
+  newest : before ≡ past → e ≡ d → later ≡ [] → CutSince past d before e later
+  older : (rest : List Entry) → past ≡ before ++ (e ∷ rest) → later ≡ rest ++ (d ∷ []) → CutSince past d before e later
+
 module _ (d e : Entry) (later : List Entry) where
-  more : (x y : Entry) (past before : List Entry) → x ≡ y → CutLast past d before e → CutLast (x ∷ past) d (y ∷ before) e
-  more x y past before same (last is at) = last (ap₂ (λ (z : Entry) (l : List Entry). z ∷ l) (sym same) is) at
-  more x y past before same (sooner rest cut) = sooner rest (ap₂ (λ (z : Entry) (l : List Entry). z ∷ l) same cut)
+  more : (x y : Entry) (past before : List Entry) → x ≡ y → CutSince past d before e later → CutSince (x ∷ past) d (y ∷ before) e later
+  more x y past before same (newest is at none) = newest (ap₂ (λ (z : Entry) (l : List Entry). z ∷ l) (sym same) is) at none
+  more x y past before same (older rest cut since) = older rest (ap₂ (λ (z : Entry) (l : List Entry). z ∷ l) same cut) since
 
   -- a trace with one entry more is cut at that entry or further before
+  pub cut-since : (past before : List Entry) → past ++ (d ∷ []) ≡ before ++ (e ∷ later) → CutSince past d before e later
+  cut-since [] [] cut = newest refl (sym (head-eq-of-cons-eq cut)) (sym (tail-eq-of-cons-eq cut))
+  cut-since [] (y ∷ []) cut = absurd (nil≢cons (tail-eq-of-cons-eq cut))
+  cut-since [] (y ∷ z ∷ before) cut = absurd (nil≢cons (tail-eq-of-cons-eq cut))
+  cut-since (x ∷ past) [] cut = older past (ap (λ (z : Entry). z ∷ past) (head-eq-of-cons-eq cut)) (sym (tail-eq-of-cons-eq cut))
+  cut-since (x ∷ past) (y ∷ before) cut =
+      more x y past before (head-eq-of-cons-eq cut) (cut-since past before (tail-eq-of-cons-eq cut))
+
   pub cut-last : (past before : List Entry) → past ++ (d ∷ []) ≡ before ++ (e ∷ later) → CutLast past d before e
-  cut-last [] [] cut = last refl (sym (head-eq-of-cons-eq cut))
-  cut-last [] (y ∷ []) cut = absurd (nil≢cons (tail-eq-of-cons-eq cut))
-  cut-last [] (y ∷ z ∷ before) cut = absurd (nil≢cons (tail-eq-of-cons-eq cut))
-  cut-last (x ∷ past) [] cut = sooner past (ap (λ (z : Entry). z ∷ past) (head-eq-of-cons-eq cut))
-  cut-last (x ∷ past) (y ∷ before) cut =
-      more x y past before (head-eq-of-cons-eq cut) (cut-last past before (tail-eq-of-cons-eq cut))
+  cut-last past before cut = by (cut-since past before cut)
+    where
+      by : CutSince past d before e later → CutLast past d before e
+      by (newest is at none) = last is at
+      by (older rest cut since) = sooner rest cut
 
 module _ (P : Entry → Type 0) where
   -- a trace with none of which P holds still has none with one entry more of which it does not hold

@@ -10,11 +10,13 @@ pub mod AllOrders
 pub mod SameSizes
 pub mod Retirings
 pub mod HowLong
+pub mod Sleepers
 pub mod Figures
 pub mod Reached
 pub mod ValuesReached
 -- what a history is
 pub mod Library
+pub mod Listed
 pub mod Opened
 pub mod Runs
 pub mod Histories

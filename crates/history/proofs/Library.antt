@@ -14,14 +14,14 @@ use Rattle.floor.specs.Calls.{onList, startIn, turnIn, retireIn, runIn}
 use Rattle.history.specs.Trace.{Turn, Entry, acted, IsTurn}
 use Rattle.history.specs.Counts.{countsOf}
 use Rattle.history.specs.Reports.{lastReport, InNumbers, OnlyAction}
-use Rattle.history.specs.History.{State, turn, retire, run, recordOf, seatOf, turnBy, retireBy, runOf, startedAs, after, entryOf, turnEntry, entries}
+use Rattle.history.specs.History.{State, turn, retire, run, listedOf, seatOf, turnBy, retireBy, runOf, startedAs, after, entryOf, turnEntry, entries}
 use Rattle.history.proofs.Runs.{run-totals, run-last}
 
 module _ (s : State) (i : ℕ) where
   -- a start, whichever it is
   pub library-start :
       (start : Seat → Worker → Started)
-      → let x = start (seatOf s i) (recordOf s i) in
+      → let x = start (seatOf s i) (listedOf s i) in
       startIn start (s .records) (s .floor) i
       ≡ onList (startedAs s i x .records) (record { refusal = x .refusal; floor = startedAs s i x .floor })
   library-start start = refl

@@ -1,7 +1,7 @@
 -- What an accepted opening leaves, and that there is one for any number of workers and buckets in range. Assumes nothing.
 use Prim.Native.Nat.{ℕ, zero, suc, _+_, _*_, _^_, _≤_, _<_}
 use mathlib.Core.Bool.{false}
-use mathlib.Core.List.{[], _++_}
+use mathlib.Core.List.{List, [], _∷_, _++_, map}
 use mathlib.Core.Logic.{_⊎_, inl, inr}
 use mathlib.Core.Path.{_≡_, refl, ap, _∙_}
 use native.Mathlib.Decide.{decLe}
@@ -10,7 +10,9 @@ use lib.ListN.{length, replicate, drop-of-length-le, length-replicate, getD-repl
 use lib.Seq.{drop-drop}
 use borrow.Author.Tests.{eq-eqb}
 use Rattle.mark.proofs.Choices.{passes}
+use Rattle.turn.specs.declared.Worker.{Worker}
 use Rattle.turn.specs.Worker.{idle}
+use Rattle.turn.specs.Asleep.{awake}
 use Rattle.engine.specs.declared.Plan.{Plan}
 use Rattle.engine.specs.Board.{bucketAt, emptyBucket, openedBoard}
 use Rattle.engine.specs.Refusals.{wrongSizes, openNumber}
@@ -28,6 +30,11 @@ use Rattle.history.proofs.States.{view}
 idle-in : (n i : ℕ) → Dec (n ≤ i) → (recordIn (replicate n idle) i ≡ idle) ⊎ (recordIn (replicate n idle) i ≡ blank)
 idle-in n i (yes past) = inr (List·getD-eq-default (replicate n idle) blank {n = i} (omega (arith, length-replicate n idle)))
 idle-in n i (no under) = inl (getD-replicate n i idle blank (omega arith))
+
+-- idle records have slept for no turn
+pub idle-awake : (n : ℕ) → map awake (replicate n idle) ≡ replicate n idle
+idle-awake zero = refl
+idle-awake (suc n) = ap (λ (ws : List Worker). idle ∷ ws) (idle-awake n)
 
 module _ (o : Opening) where
   -- empty buckets at the plan's version, the plan's floor, and idle workers
@@ -58,7 +65,7 @@ module _ (o : Opening) where
 
   -- which is idle; past the end of the list there is none
   pub opened-idle : (i : ℕ) → (worker (view (opened o)) i ≡ idle) ⊎ (worker (view (opened o)) i ≡ blank)
-  opened-idle i = rw opened-is (idle-in (length (o .lent .records)) i (decLe (length (o .lent .records)) i))
+  opened-idle i = rw (opened-is, idle-awake (length (o .lent .records))) (idle-in (length (o .lent .records)) i (decLe (length (o .lent .records)) i))
 
 -- each bucket of an opened board is empty
 pub opened-bucket : (n v b : ℕ) → b < n → bucketAt (openedBoard n v) b ≡ emptyBucket v

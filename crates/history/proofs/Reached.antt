@@ -15,6 +15,7 @@ use Rattle.turn.specs.declared.Progress.{Progress}
 use Rattle.turn.specs.declared.Progress.the-variants.{GoesOn, Ended}
 use Rattle.turn.specs.declared.Report.{Report}
 use Rattle.turn.specs.Worker as Record
+use Rattle.turn.specs.Asleep as Asleep
 use Rattle.turn.specs.Bucket as Bucket
 use Rattle.turn.specs.Places as Places
 use Rattle.turn.specs.Turn as Turned
@@ -76,7 +77,7 @@ unfolding
     Calls.openCall Calls.startCall Calls.turned Calls.turnCall Calls.retired Calls.retireCall Calls.runFrom Calls.runCall
     Refusals.wrongFloor Refusals.wrongSizes
     Refusals.openNumber Refusals.startNumber Refusals.eachNumber Refusals.turnNumber Refusals.retireNumber Refusals.runNumber
-    Turned.turnRefusal Retire.retireRefusal Record.broken Record.isIdle Record.sound Record.fits Record.mayStand Record.ticketFits Record.heldFits Record.wordFits
+    Turned.turnRefusal Retire.retireRefusal Record.broken Record.isIdle Record.sound Record.fits Record.mayStand Record.ticketFits Record.heldFits Record.wordFits Asleep.slept
     Bucket.brokenBucket Places.turn Places.lookFound Places.lookEmpty Places.findSlot Places.nextSlot Places.nextKey
     Places.after1 Places.after2 Places.after3 Places.after4 Places.after5 Places.after11 Places.after12
     Board.openedBoard Word.version Word.markOf Word.byte7 Word.setMark Word.bump Word.firstEmpty Word.wellFormed
@@ -167,6 +168,10 @@ pub record Sleeps : Type 0 where
   pub whose : who (made-lose .entry) ≡ 0
   pub report-29 : IsTurn (λ t. t .report ≡ report Won (Ended 1) 8589934593 4294967298) (made-lose .entry)
 
+-- the two words of turn 29
+words-differ : _≡_ {A = ℕ} 4294967298 8589934593 → ⊥
+words-differ is = omega arith
+
 -- the sleeper loses the swap that it fell asleep before, since the lot was closed and opened again after its moment
 pub sleeper-sleeps : Sleeps
 unfolding computed
@@ -185,7 +190,7 @@ sleeper-sleeps =
       report-12 = refl;
       made-lose =
           cut-by-number (MadeLose (s .turn)) (s .older) 28
-          (record { another = (((λ e. omega arith), refl), inl refl); differs = omega arith; left = refl; latest = none-nil _ });
+          (record { another = (((λ e. omega arith), refl), inl refl); differs = words-differ; left = refl; latest = none-nil _ });
       turn-29 = refl;
       whose = refl;
       report-29 = refl;

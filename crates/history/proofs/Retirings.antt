@@ -1,20 +1,21 @@
 -- Retiring on every opened board: whoever is at a call can be retired, nothing else is touched, and a container that comes back after all finds
 -- its word never again. Assumes nothing.
 use Prim.Native.Nat.{ℕ, _+_, _%_, _≤_, _<_}
-use mathlib.Core.List.{List, [], _∷_, _++_}
+use mathlib.Core.List.{List, [], _∷_, _++_, map}
 use mathlib.Core.Path.{_≡_, refl, ap, _∙_}
 use native.Mathlib.Decide.{ℕ-discrete, decLe}
 use native.Mathlib.Nat.{mod-lt}
 use native.Mathlib.Omega.{arith}
-use lib.ListN.{length, List·getD-eq-default}
+use lib.ListN.{length, length-map, List·getD-eq-default}
+use lib.Seq.{getD-set-same, getD-set-other}
 use Rattle.mark.specs.Word.{version, nextVersion}
 use Rattle.mark.proofs.Fields.{version-set, version-lt}
 use Rattle.turn.specs.declared.Worker.{Worker}
 use Rattle.turn.specs.Worker.{noSlot, idle}
+use Rattle.turn.specs.Asleep.{awake}
 use Rattle.turn.specs.Bucket.{markCell}
 use Rattle.turn.proofs.Retiring.{retire-version, retires-holder}
-use Rattle.engine.specs.Calls.{blank, recordIn, retireCall}
-use Rattle.engine.specs.Calls as Calls
+use Rattle.engine.specs.Calls.{blank, recordIn}
 use Rattle.engine.proofs.Sizes.{right-listed}
 use Rattle.history.specs.Trace.{Entry, retired, total}
 use Rattle.history.specs.Counts.{isChange}
@@ -23,9 +24,8 @@ use Rattle.history.specs.History as History
 use Rattle.history.specs.Cells.{cellsAt, markWordAt, Holds}
 use Rattle.history.specs.HowLong.{IsIdle}
 use Rattle.history.specs.Retirings.{bucketOfWorker, GivesBack, IsRetired, Retirings}
-use Rattle.history.proofs.View.{new-record, old-record}
-use Rattle.history.proofs.States.{view}
 use Rattle.history.proofs.Counts.{bumpOf, inBucket, in-bucket, in-bucket-le, one-yes, total-append, onto, total-onto}
+use Rattle.history.proofs.Listed.{listed-within, idle-up}
 use Rattle.history.proofs.Retiring as Going
 use Rattle.history.proofs.Steps.{Retires, done-retires}
 use Rattle.history.proofs.Cells.{holds-busy, by-word-left, retire-empties, retire-spares}
@@ -81,8 +81,8 @@ module _ {s : State} (i : ℕ) (act : Retires s (Going.entry s i) (retiredAs s i
   is-retired : IsRetired s i t
   is-retired =
       record {
-        idles = new-record (view s) (view t) i idle (act .acts .records) (act .acts .within);
-        others = old-record (view s) (view t) i idle (act .acts .records);
+        idles = getD-set-same (s .records) i idle blank (listed-within s i (act .acts .within));
+        others = λ j other. getD-set-other (s .records) i j idle blank other;
         floor = refl;
         cells = cells-stay;
         gives-back = gives-back;
@@ -111,8 +111,7 @@ module _ (o : Opening) (calls : List Call) where
 
     -- what the engine says of the retiring
     done-is : retireBy s i ≡ Going.done s i
-    unfolding retireCall Calls.retired
-    done-is = rw unrefused
+    done-is = Going.retired-is s i ∙ rw unrefused
 
     -- its entry
     entry-is : History.entries s (History.retire i) ≡ retired (Going.entry s i) ∷ []
@@ -135,13 +134,16 @@ module _ (o : Opening) (calls : List Call) where
     left = retired (Going.entry s i)
 
     there : i < workersOf o
-    there = omega (arith, holds-within (s .records) i holds, right-listed _ _ _ (state-unbroken o calls .sized), state-workers o calls)
+    there = omega (arith, holds-within (map awake (s .records)) i holds, length-map (s .records) awake, right-listed _ _ _ (state-unbroken o calls .sized), state-workers o calls)
+
+    busy : IsIdle s i → ⊥
+    busy rests = holds-busy _ holds (idle-up s i rests)
 
     trace-is : trace o then ≡ trace o calls ++ (left ∷ since)
     unfolding traceFrom
     trace-is =
         traceFrom-append (opened o) calls (History.retire i ∷ later)
-        ∙ ap (λ (es : List Entry). trace o calls ++ (es ++ since)) (entry-is i there (holds-busy _ holds))
+        ∙ ap (λ (es : List Entry). trace o calls ++ (es ++ since)) (entry-is i there busy)
 
     -- a count over all that was done, cut at the retiring
     counted : (f : Entry → ℕ) → total f (onto (trace o then) []) ≡ total f (onto (trace o calls) []) + (f left + total f since)
@@ -156,7 +158,7 @@ module _ (o : Opening) (calls : List Call) where
         )
 
     one : bumpOf left ≡ 1
-    one = one-yes (isChange left) (some-slot i (retires i there (holds-busy _ holds)) holds)
+    one = one-yes (isChange left) (some-slot i (retires i there busy) holds)
 
     -- The version of the bucket is as much further than the holder's word as it was when the holder was retired, one more, and what moved it
     -- since: together no more than was ever moved, and so less than 2^32.

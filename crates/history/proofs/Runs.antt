@@ -6,7 +6,7 @@ use mathlib.Core.List.{List, [], _∷_, _++_, map}
 use mathlib.Core.Path.{_≡_, refl, sym, ap, ap₂, _∙_}
 use native.Mathlib.Omega.{arith}
 use lib.Dec.{eqb}
-use lib.ListN.{length, take, length-set}
+use lib.ListN.{length, take}
 use borrow.Author.Tests.{eqb-true}
 use Rattle.mark.proofs.Choices.{by-cases, passes}
 use Rattle.turn.specs.declared.Worker.{Worker}
@@ -18,11 +18,12 @@ use Rattle.engine.specs.Refusals.{wrongSizes, turnNumber, runNumber}
 use Rattle.engine.specs.Calls.{Ran, tallied, noTurns, standing, unbegun, goOn, turned, turnCall, runFrom, runCall}
 use Rattle.engine.proofs.Stops.{run-turn-is-turn}
 use Rattle.engine.proofs.Keeps.{turn-keeps}
+use Rattle.engine.proofs.Sleeping.{record-awake, left-long}
 use Rattle.engine.proofs.Tallies.{losses-lost, losses-other, changes-change, changes-other}
 use Rattle.history.specs.Trace.{Turn, Entry, acted, retired, total}
 use Rattle.history.specs.Reports.{lastReport}
 use Rattle.history.specs.Counts.{isLost, isChange, turnsIn, lostSwaps, changesIn, fullRounds, countsOf}
-use Rattle.history.specs.History.{State, Opening, Call, turn, run, opened, seatOf, recordOf, turnBy, runOf, turnedAs, ranAs, after}
+use Rattle.history.specs.History.{State, Opening, Call, turn, run, opened, seatOf, listedOf, turnBy, runOf, turnedAs, ranAs, after}
 use Rattle.history.specs.History.{entryOf, andThen, turnEntries, entries, stateFrom, traceFrom, state, trace}
 use Rattle.history.proofs.Counts.{one-is}
 use Rattle.history.proofs.Histories.{stateFrom-append, traceFrom-append}
@@ -58,7 +59,7 @@ none-follow s turns t r number = record { left = refl; did = refl; turns-all = r
 -- a turn keeps the sizes
 still-right : (s : State) (i : ℕ) → RightSizes s → RightSizes (turnedAs s i (turnBy s i))
 unfolding wrongSizes
-still-right s i right = rw (length-set (s .records) i (turnBy s i .handed .worker), turn-keeps (s .board) (seatOf s i) (recordOf s i) .long) right
+still-right s i right = rw (left-long (s .records) i (turnBy s i .handed .worker) (turnBy s i .handed .answer), turn-keeps (s .board) (seatOf s i) (listedOf s i) .long) right
 
 -- how they come out from a state, with any totals and any report before them
 abbrev Turns : State → List ℕ → Type 0
@@ -73,7 +74,7 @@ module _ (s : State) (i : ℕ) (turns : List ℕ) where
       → Turns (turnedAs s i x) turns
       → (t : Totals) (last : Report)
       → Follows s (i ∷ turns) t last
-      (goOn (runFrom (s .floor) turns) i (recordOf s i .place) (x .words) (x .handed .worker) (x .handed .answer)
+      (goOn (runFrom (s .floor) turns) i (listedOf s i .place) (x .words) (x .handed .worker) (x .handed .answer)
       (record { records = s .records; totals = t; last = last; stop = 0 }))
       (andThen (entryOf s i (x .handed .answer)) (turnEntries (turnedAs s i x) turns))
 
@@ -81,7 +82,7 @@ module _ (s : State) (i : ℕ) (turns : List ℕ) where
   first-done : (board : List ℕ) (w : Worker) (r : Report) → First (Turn.after board (record { worker = w; answer = Done r }))
   unfolding stateFrom traceFrom lastReport total
   first-done board w r is others t last =
-      let rest = others (tallied (recordOf s i .place) r t) r in
+      let rest = others (tallied (listedOf s i .place) r t) r in
       let next : State = turnedAs s i (Turn.after board (record { worker = w; answer = Done r })) in
       let done : List Call = map turn (take (length (turnEntries next turns)) turns) in
       record {
@@ -90,19 +91,19 @@ module _ (s : State) (i : ℕ) (turns : List ℕ) where
             ap (λ (es : List Entry). entryOf s i (Done r) ++ es) (rest .did)
             ∙ ap (λ x. entryOf s i (x .handed .answer) ++ traceFrom (turnedAs s i x) done) (sym is);
         turns-all = omega (arith, rest .turns-all);
-        totals = rest .totals;
+        totals = rest .totals ∙ ap (λ (p : ℕ). counted (tallied p r t) (turnEntries next turns)) (ap (λ (x : Worker). x .place) (sym (record-awake (s .records) i)));
         last = rest .last;
       }
 
   first : First (turnBy s i)
   unfolding turnCall turned
   first =
-      by-cases First (eqb (turnNumber (s .floor) (s .board) (length (s .records)) i (recordOf s i)) 0) _ _
+      by-cases First (eqb (turnNumber (s .floor) (s .board) (length (s .records)) i (listedOf s i)) 0) _ _
       (λ is. first-done _ _ _) (λ isnot same others t last. none-follow s (i ∷ turns) t last _)
 
   more : RightSizes s → Turns (turnedAs s i (turnBy s i)) turns → Turns s (i ∷ turns)
   unfolding runFrom turnEntries
-  more right others = rw (run-turn-is-turn (s .board) (seatOf s i) (recordOf s i) right) (first refl others)
+  more right others = rw (run-turn-is-turn (s .board) (seatOf s i) (listedOf s i) right) (first refl others)
 
 turns-follow : (s : State) (turns : List ℕ) → RightSizes s → Turns s turns
 unfolding runFrom turnEntries

@@ -11,7 +11,7 @@ use Rattle.engine.specs.declared.Floor.{Floor}
 use Rattle.engine.specs.declared.Started.{Started}
 use Rattle.engine.specs.Refusals.{startNumber}
 use Rattle.engine.specs.Calls.{planned, spending, startCall}
-use Rattle.history.specs.History.{State, Opening, Call, look, insert, remove, turn, retire, run, show, count, orders, opened, recordOf, seatOf}
+use Rattle.history.specs.History.{State, Opening, Call, look, insert, remove, turn, retire, run, show, count, orders, opened, listedOf, seatOf}
 use Rattle.history.specs.History.{after, stateFrom, state}
 use Rattle.history.proofs.Opened.{opened-is}
 
@@ -20,10 +20,10 @@ module _ (size : Floor → ℕ) (other : (f : Floor) (t : ℕ) → size (spendin
   start-size :
       (s : State) (i : ℕ) (late : Bool) (v : Worker) (g : Floor)
       → size g ≡ size (s .floor)
-      → size (startCall (s .board) (seatOf s i) (recordOf s i) late v g .floor) ≡ size (s .floor)
+      → size (startCall (s .board) (seatOf s i) (listedOf s i) late v g .floor) ≡ size (s .floor)
   unfolding startCall
   start-size s i late v g same =
-      let number = startNumber (s .floor) (s .board) (length (s .records)) i (recordOf s i) late in
+      let number = startNumber (s .floor) (s .board) (length (s .records)) i (listedOf s i) late in
       by-cases (λ (x : Started). size (x .floor) ≡ size (s .floor)) (eqb number 0) _ _ (λ is. same) (λ isnot. refl)
 
   call-size : (s : State) (c : Call) → size (after s c .floor) ≡ size (s .floor)

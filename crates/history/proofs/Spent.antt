@@ -45,7 +45,7 @@ pub record Spent (s : State) (past : List Entry) (ts : List ℕ) : Type 0 where
       → None (IsTurn (StoresTicket (e .was .ticket))) before
 
 -- what holds of a new record beside each old one, and of each two old ones, holds of each two
-module _ (s t : State) (i : ℕ) (v : Worker) (records : t .records ≡ set (s .records) i v) (within : i < length (s .records)) where
+module _ (s t : State) (i : ℕ) (v : Worker) (records : view t .records ≡ set (view s .records) i v) (within : i < length (view s .records)) where
   each : (P : ℕ → Worker → Type 0) → P i v → ((j : ℕ) → (j ≡ i → ⊥) → P j (recordOf s j)) → (j : ℕ) → P j (recordOf t j)
   each P = each-worker (view s) (view t) i v records P within
 

@@ -2,14 +2,15 @@
 use Prim.Native.Nat.{ℕ, _+_, _*_, _^_, _≤_, _<_}
 use mathlib.Core.Bool.{Bool, false, not}
 use mathlib.Core.List.{List, []}
-use mathlib.Core.Path.{_≡_, refl}
+use mathlib.Core.Path.{_≡_, refl, ap, _∙_}
 use native.Mathlib.Omega.{arith}
 use lib.Dec.{eqb}
-use lib.ListN.{length}
+use lib.ListN.{length, length-map}
 use borrow.Author.Tests.{eqb-true, leb-false, not-false}
 use Rattle.mark.proofs.Choices.{by-cases, passes}
 use Rattle.turn.specs.declared.Worker.{Worker}
 use Rattle.turn.specs.Worker.{idle, started, lookFor, insertOf, removeOf, isIdle, broken}
+use Rattle.turn.specs.Asleep.{awake}
 use Rattle.turn.proofs.Effects.{Aimed, start-aimed}
 use Rattle.turn.proofs.Kept.{idle-is}
 use Rattle.engine.specs.declared.Floor.{Floor}
@@ -17,7 +18,8 @@ use Rattle.engine.specs.declared.Started.{Started}
 use Rattle.engine.specs.Refusals.{wrongSizes, noWorker, spent, startNumber}
 use Rattle.engine.specs.Calls.{spending, startCall}
 use Rattle.engine.proofs.Sizes.{right-listed}
-use Rattle.history.specs.History.{State, recordOf, seatOf, startedAs, begun}
+use Rattle.engine.proofs.Sleeping.{record-awake, put-awake}
+use Rattle.history.specs.History.{State, listedOf, seatOf, startedAs, begun}
 use Rattle.history.proofs.View.{inserting, left, Aware, Starts, Walk, stays, starts}
 use Rattle.history.proofs.States.{view, same-walk, recount}
 
@@ -26,6 +28,7 @@ use Rattle.history.proofs.States.{view, same-walk, recount}
 -- what holds of the record v and the floor g that a start on floor f leaves, where it is not late
 pub record Fresh (f : Floor) (late : Bool) (v : Worker) (g : Floor) : Type 0 where
   pub held : v .held ≡ 3
+  pub up : v .asleep ≡ 0
   pub unaware : Aware v → ⊥
   pub aimed : Aimed v
   pub last : late ≡ false → f .last + inserting v ≤ g .last
@@ -38,6 +41,7 @@ module _ (f : Floor) (lot : ℕ) where
   unticketed k p early unaware none =
       record {
         held = refl;
+        up = refl;
         unaware = unaware;
         aimed = start-aimed k p lot 0 early;
         last = λ is. omega (arith, none);
@@ -57,6 +61,7 @@ module _ (f : Floor) (lot : ℕ) where
   insert-fresh t few =
       record {
         held = refl;
+        up = refl;
         unaware = λ aware. omega (arith, aware .from);
         aimed = start-aimed _ _ _ _ (omega arith);
         last = λ is. omega (arith, leb-false t (f .last) is);
@@ -95,11 +100,11 @@ start-finds-idle f board listed i w late none = not-refused f board listed i w l
 module _ (s : State) (i : ℕ) {late : Bool} {v : Worker} {g : Floor} (fresh : Fresh (s .floor) late v g) where
   -- its number of refusal
   abbrev number : ℕ
-  number = startNumber (s .floor) (s .board) (length (s .records)) i (recordOf s i) late
+  number = startNumber (s .floor) (s .board) (length (s .records)) i (listedOf s i) late
 
   -- what the engine says of it
   abbrev startBy : Started
-  startBy = startCall (s .board) (seatOf s i) (recordOf s i) late v g
+  startBy = startCall (s .board) (seatOf s i) (listedOf s i) late v g
 
   -- which is this where it is accepted
   abbrev taken : Started
@@ -107,17 +112,17 @@ module _ (s : State) (i : ℕ) {late : Bool} {v : Worker} {g : Floor} (fresh : F
 
   -- and this where it is not
   abbrev refused : Started
-  refused = record { refusal = number; floor = s .floor; worker = recordOf s i }
+  refused = record { refusal = number; floor = s .floor; worker = listedOf s i }
 
   -- an accepted start puts its record there
   pub accepted-starts : number ≡ 0 → Starts (view s) v (view (startedAs s i taken))
   accepted-starts none =
-      let known = not-refused (s .floor) (s .board) (length (s .records)) i (recordOf s i) late none in
+      let known = not-refused (s .floor) (s .board) (length (s .records)) i (listedOf s i) late none in
       record {
         who = i;
-        within = known .within;
-        was = known .was;
-        records = refl;
+        within = rw (length-map (s .records) awake) (known .within);
+        was = record-awake (s .records) i ∙ ap awake (known .was);
+        records = put-awake (s .records) i v (fresh .up);
         marks = λ c. refl;
         held = fresh .held;
         unaware = fresh .unaware;

@@ -1,24 +1,25 @@
 -- What demand 3 goes by, of a state. Assumes nothing.
 use Prim.Native.Nat.{ℕ}
-use mathlib.Core.List.{List, []}
+use mathlib.Core.List.{List, [], map}
 use mathlib.Core.Path.{_≡_, subst}
 use lib.ListN.{set}
 use lib.Seq.{set-getD}
 use Rattle.turn.specs.Bucket.{cell, markCell}
+use Rattle.turn.specs.Asleep.{awake}
 use Rattle.engine.specs.Board.{bucketAt}
 use Rattle.engine.specs.Calls.{blank}
 use Rattle.history.specs.Trace.{Entry}
-use Rattle.history.specs.History.{State, recordOf}
+use Rattle.history.specs.History.{State, listedOf}
 use Rattle.history.proofs.View.{View, Walk, stays}
 
--- its mark words, its records and its last ticket
+-- its mark words, its records without anybody's sleep, and its last ticket
 abbrev pub view : State → View
-view s = record { marks = λ b. cell (bucketAt (s .board) b) markCell; records = s .records; last = s .floor .last }
+view s = record { marks = λ b. cell (bucketAt (s .board) b) markCell; records = map awake (s .records); last = s .floor .last }
 
 -- a worker's record put back as it was is no change
 pub same-walk :
     (n : ℕ) (s : State) (i : ℕ)
-    → Walk n (view s) [] 0 (view (record { board = s .board; floor = s .floor; records = set (s .records) i (recordOf s i) }))
+    → Walk n (view s) [] 0 (view (record { board = s .board; floor = s .floor; records = set (s .records) i (listedOf s i) }))
 same-walk n s i = rw (set-getD (s .records) i blank) stays
 
 -- a walk with its changes counted in another way

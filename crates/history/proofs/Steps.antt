@@ -6,7 +6,7 @@ use mathlib.Core.List.{List, [], _∷_, _++_, map, append-assoc, append-nil}
 use mathlib.Core.Path.{_≡_, refl, sym, subst}
 use native.Mathlib.Omega.{arith}
 use lib.Dec.{eqb}
-use lib.ListN.{length, take}
+use lib.ListN.{length, set, take}
 use lib.Seq.{set-getD}
 use borrow.Author.Tests.{eqb-true, leb-false}
 use Rattle.mark.proofs.Choices.{by-cases}
@@ -25,18 +25,16 @@ use Rattle.engine.specs.declared.Floor.{Floor}
 use Rattle.engine.specs.declared.Started.{Started}
 use Rattle.engine.specs.Board.{bucketAt, withBucket}
 use Rattle.engine.specs.Refusals.{spent, startNumber}
-use Rattle.engine.specs.Calls.{blank, spending, startCall, turned, turnCall, retireCall}
-use Rattle.engine.specs.Calls as Calls
-use Rattle.engine.proofs.Keeps.{turn-accepted}
-use Rattle.engine.proofs.Retiring.{retire-accepted, vacated-nothing, vacated-cells}
+use Rattle.engine.specs.Calls.{blank, spending, startCall, afterTurn}
+use Rattle.engine.proofs.Retiring.{vacated-nothing, vacated-cells}
 use Rattle.history.specs.Trace.{Turn, Retiring, Entry, acted, retired}
-use Rattle.history.specs.History.{State, Call, look, insert, remove, turn, retire, run, show, count, orders, recordOf, seatOf, runOf}
+use Rattle.history.specs.History.{State, Call, look, insert, remove, turn, retire, run, show, count, orders, listedOf, recordOf, seatOf, runOf}
 use Rattle.history.specs.History.{startedAs, turnedAs, retiredAs, retireEntry, after, entryOf, turnEntry, entries, stateFrom, traceFrom}
 use Rattle.history.specs.Values.{spentBy, ticketsFrom}
 use Rattle.history.proofs.View.{Starts, Acts}
 use Rattle.history.proofs.States.{view}
 use Rattle.history.proofs.Starting.{Fresh, look-fresh, insert-fresh, remove-fresh, not-refused, accepted-starts}
-use Rattle.history.proofs.Acting.{number, done, entry, done-acts}
+use Rattle.history.proofs.Acting.{number, done, entry, turned-is, done-accepted, done-acts}
 use Rattle.history.proofs.Retiring as Going
 use Rattle.history.proofs.Runs.{run-state, run-trace}
 
@@ -60,6 +58,10 @@ pub record Begins (s : State) (v : Worker) (spent : List ℕ) (t : State) : Type
   pub board : t .board ≡ s .board
   pub buckets : t .floor .buckets ≡ s .floor .buckets
   pub spends : Spends (s .floor .last) v spent (t .floor .last)
+  -- it stands in the list, in the place of an idle one
+  pub at : ℕ
+  pub rested : listedOf s at ≡ idle
+  pub listed : t .records ≡ set (s .records) at v
 
 -- ---- a turn
 
@@ -74,13 +76,13 @@ pub record Turns (s : State) (e : Turn) (t : State) : Type 0 where
   pub report : e .report ≡ reportOf (e .report .bucket) (bucketAt (s .board) (e .report .bucket)) (stepOf s e)
   pub board : t .board ≡ withBucket (s .board) (e .report .bucket) (stepOf s e .bucket)
   pub buckets : t .floor .buckets ≡ s .floor .buckets
+  -- whoever else is busy has slept through it
+  pub listed : t .records ≡ afterTurn (s .records) (e .worker) (stepOf s e .stepped .worker)
 
 module _ (s : State) (i : ℕ) where
   -- a turn that is not refused is done
   pub done-turns : number s i ≡ 0 → Turns s (entry s i) (turnedAs s i (done s i))
-  done-turns none =
-      let known = turn-accepted (s .floor) (s .board) (length (s .records)) i (recordOf s i) none in
-      record { ok = known .1; acts = done-acts s i none; report = refl; board = refl; buckets = refl }
+  done-turns none = record { ok = done-accepted s i none; acts = done-acts s i none; report = refl; board = refl; buckets = refl; listed = refl }
 
   -- what holds of a turn that is done, and of nothing done, holds of every turn
   pub by-turn :
@@ -88,11 +90,11 @@ module _ (s : State) (i : ℕ) where
       → ((e : Turn) (t : State) → Turns s e t → Q t (acted e ∷ []))
       → Q s []
       → Q (after s (turn i)) (turnEntry s i)
-  unfolding turnCall turned
   by-turn Q acts same =
-      by-cases (λ (x : After Turned). Q (turnedAs s i x) (entryOf s i (x .handed .answer))) (eqb (number s i) 0) (done s i)
-      (Turn.after (s .board) (refusing (number s i) (recordOf s i)))
-      (λ is. acts (entry s i) (turnedAs s i (done s i)) (done-turns (eqb-true _ 0 is))) (λ isnot. rw (set-getD (s .records) i blank) same)
+      let Holds : After Turned → Type 0 = λ x. Q (turnedAs s i x) (entryOf s i (x .handed .answer)) in
+      subst Holds (sym (turned-is s i))
+      (by-cases Holds (eqb (number s i) 0) (done s i) (Turn.after (s .board) (refusing (number s i) (listedOf s i)))
+      (λ is. acts (entry s i) (turnedAs s i (done s i)) (done-turns (eqb-true _ 0 is))) (λ isnot. same))
 
 -- ---- a retiring
 
@@ -104,18 +106,20 @@ pub record Retires (s : State) (r : Retiring) (t : State) : Type 0 where
   pub cells : (b k : ℕ) → (k ≡ markCell → ⊥) → cell (bucketAt (t .board) b) k ≡ cell (bucketAt (s .board) b) k
   pub board : r .was .held ≡ noSlot → t .board ≡ s .board
   pub buckets : t .floor .buckets ≡ s .floor .buckets
+  pub listed : t .records ≡ set (s .records) (r .worker) idle
 
 module _ (s : State) (i : ℕ) where
   -- a retiring that is not refused is done
   pub done-retires : Going.number s i ≡ 0 → Retires s (Going.entry s i) (retiredAs s i (Going.done s i))
   done-retires none =
-      let known = retire-accepted (s .floor) (s .board) (length (s .records)) i (recordOf s i) none in
+      let known = Going.retire-known s i none in
       record {
         ok = known .1;
         acts = Going.retire-acts s i none;
         cells = vacated-cells (s .floor) (s .board) (recordOf s i) (known .0);
         board = vacated-nothing (s .floor) (s .board) (recordOf s i);
         buckets = refl;
+        listed = refl;
       }
 
   -- what holds of a retiring that is done, and of nothing done, holds of every retiring
@@ -124,12 +128,12 @@ module _ (s : State) (i : ℕ) where
       → ((r : Retiring) (t : State) → Retires s r t → Q t (retired r ∷ []))
       → Q s []
       → Q (after s (retire i)) (entries s (retire i))
-  unfolding retireCall Calls.retired
   by-retiring Q acts same =
-      by-cases (λ (x : After Retired). Q (retiredAs s i x) (retireEntry s i x)) (eqb (Going.number s i) 0) (Going.done s i)
-      (Turn.after (s .board) (notRetired (Going.number s i) (recordOf s i)))
+      let Holds : After Retired → Type 0 = λ x. Q (retiredAs s i x) (retireEntry s i x) in
+      subst Holds (sym (Going.retired-is s i))
+      (by-cases Holds (eqb (Going.number s i) 0) (Going.done s i) (Turn.after (s .board) (notRetired (Going.number s i) (listedOf s i)))
       (λ is. acts (Going.entry s i) (retiredAs s i (Going.done s i)) (done-retires (eqb-true _ 0 is)))
-      (λ isnot. rw (isnot, set-getD (s .records) i blank) same)
+      (λ isnot. rw (isnot, set-getD (s .records) i blank) same))
 
 -- ---- what every step keeps
 
@@ -183,16 +187,27 @@ module _ (P : State → List Entry → List ℕ → Type 0) where
         → (late ≡ false → Spends (s .floor .last) v spent (g .last))
         → (past : List Entry) (ts : List ℕ)
         → P s past ts
-        → let x = startCall (s .board) (seatOf s i) (recordOf s i) late v g in
+        → let x = startCall (s .board) (seatOf s i) (listedOf s i) late v g in
         P (startedAs s i x) past (ts ++ cond (eqb (x .refusal) 0) spent [])
     unfolding startCall
     start-lasts s i late v g spent fresh kind same spends past ts h =
-        let refusal = startNumber (s .floor) (s .board) (length (s .records)) i (recordOf s i) late in
+        let refusal = startNumber (s .floor) (s .board) (length (s .records)) i (listedOf s i) late in
         by-cases (λ (x : Started). P (startedAs s i x) past (ts ++ cond (eqb (x .refusal) 0) spent [])) (eqb refusal 0) _ _
         (λ is.
         let none = eqb-true _ 0 is in
-        let early = not-refused (s .floor) (s .board) (length (s .records)) i (recordOf s i) late none .early in
-        lasts .begins past ts (record { starts = accepted-starts s i fresh none; kind = kind; board = refl; buckets = same; spends = spends early }) h)
+        let known = not-refused (s .floor) (s .board) (length (s .records)) i (listedOf s i) late none in
+        lasts .begins past ts
+        (record {
+          starts = accepted-starts s i fresh none;
+          kind = kind;
+          board = refl;
+          buckets = same;
+          spends = spends (known .early);
+          at = i;
+          rested = known .was;
+          listed = refl;
+        })
+        h)
         (λ isnot. rw (isnot, append-nil ts, set-getD (s .records) i blank) h)
 
     -- a start without a ticket
@@ -203,9 +218,9 @@ module _ (P : State → List Entry → List ℕ → Type 0) where
         → (v .kind ≡ insertKind → ⊥)
         → (past : List Entry) (ts : List ℕ)
         → P s past ts
-        → P (startedAs s i (startCall (s .board) (seatOf s i) (recordOf s i) false v (s .floor))) past (ts ++ [])
+        → P (startedAs s i (startCall (s .board) (seatOf s i) (listedOf s i) false v (s .floor))) past (ts ++ [])
     plain-lasts s i v fresh kind other past ts h =
-        let x = startCall (s .board) (seatOf s i) (recordOf s i) false v (s .floor) in
+        let x = startCall (s .board) (seatOf s i) (listedOf s i) false v (s .floor) in
         subst (λ (us : List ℕ). P (startedAs s i x) past (ts ++ us)) (nothing (eqb (x .refusal) 0))
         (start-lasts s i false v (s .floor) [] fresh kind refl (λ is. unticketed other refl refl) past ts h)
       where

@@ -3,7 +3,7 @@ use Prim.Native.Nat.{ℕ, _^_, _<_}
 use mathlib.Core.Bool.{Bool, false}
 use mathlib.Core.List.{List, [], _∷_}
 use mathlib.Core.Logic.{inl, inr}
-use mathlib.Core.Path.{_≡_, refl}
+use mathlib.Core.Path.{_≡_, refl, subst}
 use native.Mathlib.Decide.{ℕ-discrete}
 use native.Mathlib.Omega.{arith}
 use lib.Dec.{eqb}
@@ -16,21 +16,23 @@ use Rattle.mark.proofs.WellFormed.{well-formed}
 use Rattle.turn.specs.declared.Worker.{Worker}
 use Rattle.turn.specs.Worker.{idle, lookFor, removeOf, broken}
 use Rattle.turn.specs.Bucket.{brokenBucket}
-use Rattle.turn.specs.Turn.{Turned, After}
+use Rattle.turn.specs.Turn.{Answer, Refused, Done, Turned, After}
 use Rattle.turn.specs.declared.Retired.{Retired}
 use Rattle.turn.proofs.Sound.{whole-not-broken}
+use Rattle.turn.proofs.Asleep.{slept-broken}
 use Rattle.turn.proofs.Kept.{idle-kept, look-kept, insert-kept, remove-kept}
 use Rattle.engine.specs.declared.Floor.{Floor}
 use Rattle.engine.specs.declared.Started.{Started}
 use Rattle.engine.specs.Board.{emptyBucket}
 use Rattle.engine.specs.Refusals.{wrongSizes, openNumber, startNumber, eachNumber, turnNumber, retireNumber, runNumber}
-use Rattle.engine.specs.Calls.{Ran, planned, startCall, turned, turnCall, retired, retireCall, unbegun, blank, recordIn, goOn, runFrom, runCall}
+use Rattle.engine.specs.Calls.{Ran, planned, startCall, turned, afterTurn, recordsLeft, retired, retireCall, unbegun, blank, recordIn, goOn, runFrom, runCall}
 use Rattle.engine.proofs.Sizes.{right-listed}
 use Rattle.engine.proofs.Buckets.{length-opened}
 use Rattle.engine.proofs.Turns.{own}
+use Rattle.engine.proofs.Sleeping.{left-long, own-after, other-after}
 use Rattle.engine.proofs.Keeps.{Keeps, each-keeps, turn-keeps}
 use Rattle.engine.proofs.Retiring.{retire-accepted, vacated-board-long, vacated-unbroken}
-use Rattle.history.specs.History.{State, Opening, Call, look, insert, remove, turn, retire, run, show, count, orders, opened, recordOf, seatOf, runOf}
+use Rattle.history.specs.History.{State, Opening, Call, look, insert, remove, turn, retire, run, show, count, orders, opened, listedOf, seatOf, runOf}
 use Rattle.history.specs.History.{retireBy, startedAs, turnedAs, retiredAs, ranAs, after, stateFrom, state}
 use Rattle.history.specs.Numbers.{OneOf}
 use Rattle.history.specs.Unbroken.{Unbroken}
@@ -101,23 +103,37 @@ module _ (s : State) (ok : Unbroken s) (i : ℕ) where
       → g .workers ≡ s .floor .workers
       → g .buckets ≡ s .floor .buckets
       → (late ≡ false → broken v ≡ false)
-      → Unbroken (startedAs s i (startCall (s .board) (seatOf s i) (recordOf s i) late v g))
+      → Unbroken (startedAs s i (startCall (s .board) (seatOf s i) (listedOf s i) late v g))
   unfolding startCall
   start-unbroken late v g workers buckets kept =
-      let number = startNumber (s .floor) (s .board) (length (s .records)) i (recordOf s i) late in
+      let number = startNumber (s .floor) (s .board) (length (s .records)) i (listedOf s i) late in
       by-cases (λ (x : Started). Unbroken (startedAs s i x)) (eqb number 0) _ _
       (λ is. seated-unbroken v g workers buckets (λ under. kept (not-refused _ _ _ i _ late (eqb-true number 0 is) .early)))
       (λ isnot. seated-unbroken _ _ refl refl (ok .records i))
 
   -- ---- a turn
 
+  -- whoever sleeps through a turn is not broken by it
+  left-unbroken :
+      (w : Worker) (a : Answer) → (i < s .floor .workers → broken w ≡ false) → (j : ℕ) → j < s .floor .workers
+      → broken (recordIn (recordsLeft (s .records) i w a) j) ≡ false
+  left-unbroken w (Refused number) kept j under = ok .records j under
+  left-unbroken w (Done report) kept j under = by (ℕ-discrete j i)
+    where
+      long : j < length (s .records)
+      long = omega (arith, under, right-listed _ _ _ (ok .sized))
+
+      by : Dec (j ≡ i) → broken (recordIn (afterTurn (s .records) i w) j) ≡ false
+      by (yes is) = rw (is, own-after (s .records) i w (omega (arith, is, long))) (kept (omega (arith, is, under)))
+      by (no other) = rw (other-after (s .records) i w j other, slept-broken (recordIn (s .records) j)) (ok .records j under)
+
   -- what a turn leaves is unbroken, since it keeps the board and the record so
-  turned-unbroken : (b : ℕ) (x : After Turned) → Keeps (s .board) b (recordOf s i) x → Unbroken (turnedAs s i x)
+  turned-unbroken : (b : ℕ) (x : After Turned) → Keeps (s .board) b (listedOf s i) x → Unbroken (turnedAs s i x)
   unfolding wrongSizes
   turned-unbroken b x keeps =
       record {
-        sized = rw (keeps .long, length-set (s .records) i (x .handed .worker)) (ok .sized);
-        records = set-unbroken (x .handed .worker) (λ under. keeps .sound (ok .records i under));
+        sized = rw (keeps .long, left-long (s .records) i (x .handed .worker) (x .handed .answer)) (ok .sized);
+        records = left-unbroken (x .handed .worker) (x .handed .answer) (λ under. keeps .sound (ok .records i under));
         buckets = λ b under. keeps .buckets b (ok .buckets b under);
       }
 
@@ -127,7 +143,7 @@ module _ (s : State) (ok : Unbroken s) (i : ℕ) where
   retire-unbroken : Unbroken (retiredAs s i (retireBy s i))
   unfolding retireCall retired wrongSizes
   retire-unbroken =
-      let w = recordOf s i in
+      let w = listedOf s i in
       let number = retireNumber (s .floor) (s .board) (length (s .records)) i w in
       by-cases (λ (x : After Retired). Unbroken (retiredAs s i x)) (eqb number 0) _ _
       (λ is.
@@ -195,7 +211,7 @@ after-unbroken s (look i lot) ok = start-unbroken s ok i false (lookFor lot) (s 
 after-unbroken s (insert i lot t) ok =
     start-unbroken s ok i _ _ _ refl refl (λ early. insert-kept lot (t .number) (omega (arith, leb-false (t .number) (s .floor .last) early)))
 after-unbroken s (remove i lot) ok = start-unbroken s ok i false (removeOf lot) (s .floor) refl refl (λ early. remove-kept lot)
-after-unbroken s (turn i) ok = turned-unbroken s ok i _ _ (turn-keeps (s .board) (seatOf s i) (recordOf s i))
+after-unbroken s (turn i) ok = turned-unbroken s ok i _ _ (turn-keeps (s .board) (seatOf s i) (listedOf s i))
 after-unbroken s (retire i) ok = retire-unbroken s ok i
 after-unbroken s (run turns) ok = run-unbroken s ok turns
 after-unbroken s (show lot) ok = ok
@@ -204,14 +220,13 @@ after-unbroken s (orders depth) ok = ok
 
 module _ (s : State) (ok : Unbroken s) (i : ℕ) where
   -- a turn that would be done in a run is done as a call too
-  pub number-is : eachNumber (s .floor) (s .board) i (recordOf s i) ≡ 0 → Acting.number s i ≡ 0
+  pub number-is : eachNumber (s .floor) (s .board) i (listedOf s i) ≡ 0 → Acting.number s i ≡ 0
   unfolding turnNumber
   number-is none = rw (ok .sized) none
 
   -- what a turn that is done leaves is unbroken
   pub turn-unbroken : Acting.number s i ≡ 0 → Unbroken (turnedAs s i (Acting.done s i))
-  unfolding turnCall turned
-  turn-unbroken none = rw none at (after-unbroken s (turn i) ok)
+  turn-unbroken none = subst (λ (x : After Turned). Unbroken (turnedAs s i x)) (Acting.done-is s i none) (after-unbroken s (turn i) ok)
 
 -- calls one after another keep a state unbroken
 calls-unbroken : (s : State) (calls : List Call) → Unbroken s → Unbroken (stateFrom s calls)

@@ -24,7 +24,7 @@ use Rattle.engine.proofs.Sizes.{both-fail, right-sizes, right-listed}
 use Rattle.engine.proofs.Keeps.{each-unrefused}
 use Rattle.walks.specs.Calls.{notSmall, ordersNumber}
 use Rattle.walks.proofs.Classes.{all-sound}
-use Rattle.history.specs.History.{State, recordOf}
+use Rattle.history.specs.History.{State, listedOf}
 use Rattle.history.specs.Numbers.{OneOf}
 use Rattle.history.specs.Unbroken.{Unbroken}
 
@@ -55,10 +55,10 @@ module _ (s : State) (ok : Unbroken s) where
   -- a start is accepted, or refused by 2, 4 or 5
   pub start-numbers :
       (i : ℕ) (late : Bool)
-      → OneOf (0 ∷ 2 ∷ 4 ∷ 5 ∷ []) (startNumber (s .floor) (s .board) (length (s .records)) i (recordOf s i) late)
+      → OneOf (0 ∷ 2 ∷ 4 ∷ 5 ∷ []) (startNumber (s .floor) (s .board) (length (s .records)) i (listedOf s i) late)
   unfolding startNumber wrongSizes
   start-numbers i late =
-      let w = recordOf s i in
+      let w = listedOf s i in
       let left : List ℕ = 0 ∷ 2 ∷ 4 ∷ 5 ∷ [] in
       rw (ok .sized)
       (either-of left (noWorker (s .floor) i) 2 _ (inr (inl refl))
@@ -67,10 +67,10 @@ module _ (s : State) (ok : Unbroken s) where
       (λ idle. either-of left late 5 0 (inr (inr (inr (inl refl)))) (λ early. inl refl)))))
 
   -- a turn of a run is done, or refused by 2 or 6
-  pub each-numbers : (i : ℕ) → OneOf (0 ∷ 2 ∷ 6 ∷ []) (eachNumber (s .floor) (s .board) i (recordOf s i))
+  pub each-numbers : (i : ℕ) → OneOf (0 ∷ 2 ∷ 6 ∷ []) (eachNumber (s .floor) (s .board) i (listedOf s i))
   unfolding eachNumber turnRefusal
   each-numbers i =
-      let w = recordOf s i in
+      let w = listedOf s i in
       let left : List ℕ = 0 ∷ 2 ∷ 6 ∷ [] in
       either-of left (noWorker (s .floor) i) 2 _ (inr (inl refl))
       (λ there. rw (ok .records i (leb-false _ _ there))
@@ -78,31 +78,31 @@ module _ (s : State) (ok : Unbroken s) where
 
   module _ (i : ℕ) (under : i < s .floor .workers) where
     -- a turn of a busy worker is never refused
-    pub busy-moves : (recordOf s i ≡ idle → ⊥) → eachNumber (s .floor) (s .board) i (recordOf s i) ≡ 0
+    pub busy-moves : (listedOf s i ≡ idle → ⊥) → eachNumber (s .floor) (s .board) i (listedOf s i) ≡ 0
     busy-moves busy =
-        let w = recordOf s i in
+        let w = listedOf s i in
         each-unrefused (s .floor) (s .board) i w under (ok .records i under) (not-idle w busy) (lot-unbroken (w .key))
 
     -- a turn of an idle worker is refused by 6
-    pub idle-stays : recordOf s i ≡ idle → eachNumber (s .floor) (s .board) i (recordOf s i) ≡ 6
+    pub idle-stays : listedOf s i ≡ idle → eachNumber (s .floor) (s .board) i (listedOf s i) ≡ 6
     unfolding eachNumber turnRefusal
     idle-stays is = rw (lt-leb (s .floor .workers) i under, is, idle-kept, is-idle)
 
     -- the start of an idle worker is accepted, unless its ticket is spent
-    pub idle-starts : (late : Bool) → recordOf s i ≡ idle → late ≡ false → startNumber (s .floor) (s .board) (length (s .records)) i (recordOf s i) late ≡ 0
+    pub idle-starts : (late : Bool) → listedOf s i ≡ idle → late ≡ false → startNumber (s .floor) (s .board) (length (s .records)) i (listedOf s i) late ≡ 0
     unfolding startNumber wrongSizes
     idle-starts late is early = rw (ok .sized, lt-leb (s .floor .workers) i under, is, idle-kept, is-idle, early)
 
   -- a turn call is done, or refused by 2 or 6
-  pub turn-numbers : (i : ℕ) → OneOf (0 ∷ 2 ∷ 6 ∷ []) (turnNumber (s .floor) (s .board) (length (s .records)) i (recordOf s i))
+  pub turn-numbers : (i : ℕ) → OneOf (0 ∷ 2 ∷ 6 ∷ []) (turnNumber (s .floor) (s .board) (length (s .records)) i (listedOf s i))
   unfolding turnNumber
   turn-numbers i = rw (ok .sized) (each-numbers i)
 
   -- a retiring is done, or refused by 2 or 6
-  pub retire-numbers : (i : ℕ) → OneOf (0 ∷ 2 ∷ 6 ∷ []) (retireNumber (s .floor) (s .board) (length (s .records)) i (recordOf s i))
+  pub retire-numbers : (i : ℕ) → OneOf (0 ∷ 2 ∷ 6 ∷ []) (retireNumber (s .floor) (s .board) (length (s .records)) i (listedOf s i))
   unfolding retireNumber retireRefusal
   retire-numbers i =
-      let w = recordOf s i in
+      let w = listedOf s i in
       let left : List ℕ = 0 ∷ 2 ∷ 6 ∷ [] in
       rw (ok .sized)
       (either-of left (noWorker (s .floor) i) 2 _ (inr (inl refl))
@@ -114,11 +114,11 @@ module _ (s : State) (ok : Unbroken s) where
   pub busy-retires :
       (i : ℕ)
       → i < s .floor .workers
-      → (recordOf s i ≡ idle → ⊥)
-      → retireNumber (s .floor) (s .board) (length (s .records)) i (recordOf s i) ≡ 0
+      → (listedOf s i ≡ idle → ⊥)
+      → retireNumber (s .floor) (s .board) (length (s .records)) i (listedOf s i) ≡ 0
   unfolding retireNumber retireRefusal
   busy-retires i under busy =
-      let w = recordOf s i in
+      let w = listedOf s i in
       rw (ok .sized, lt-leb (s .floor .workers) i under, ok .records i under, not-idle w busy, lot-unbroken (w .key))
       (by-cases (λ (n : ℕ). n ≡ 0) (eqb (w .held) noSlot) 0 0 (λ none. refl) (λ held. refl))
 

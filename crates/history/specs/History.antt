@@ -2,13 +2,14 @@
 -- is said in the engine's Calls, and nowhere else.
 use Prim.Native.Nat.{ℕ, _+_, _-_, _*_, _%_, _^_, _<_}
 use mathlib.Core.Bool.{cond}
-use mathlib.Core.List.{List, [], _∷_, _++_}
+use mathlib.Core.List.{List, [], _∷_, _++_, map}
 use mathlib.Core.Path.{_≡_}
 use native.Mathlib.Omega.{arith}
 use lib.Dec.{eqb}
 use lib.ListN.{length, set}
 use Rattle.turn.specs.declared.Worker.{Worker}
 use Rattle.turn.specs.Worker.{lookKind, insertKind, removeKind}
+use Rattle.turn.specs.Asleep.{awake}
 use Rattle.turn.specs.Turn.{Answer, Refused, Done, Turned, After}
 use Rattle.turn.specs.declared.Retired.{Retired}
 use Rattle.engine.specs.declared.Floor.{Floor}
@@ -17,7 +18,7 @@ use Rattle.engine.specs.declared.Seat.{Seat}
 use Rattle.engine.specs.declared.Started.{Started}
 use Rattle.engine.specs.Board.{bucketOf}
 use Rattle.engine.specs.Refusals.{openNumber, runNumber}
-use Rattle.engine.specs.Calls.{Opened, Ran, planned, openCall, lookCall, insertCall, removeCall, turnCall, retireCall, runCall, recordIn, seatIn}
+use Rattle.engine.specs.Calls.{Opened, Ran, planned, openCall, lookCall, insertCall, removeCall, turnCall, recordsLeft, retireCall, runCall, recordIn, seatIn}
 use Rattle.history.specs.Trace.{Entry, acted, retired}
 
 -- ---- the state, and the opening that it comes from
@@ -28,9 +29,13 @@ pub record State : Type 0 where
   pub floor : Floor
   pub records : List Worker
 
--- a worker's record
+-- a worker's record, as it stands in the list
+abbrev pub listedOf : State → ℕ → Worker
+listedOf s i = recordIn (s .records) i
+
+-- the same without how long it has slept, which no step of a call goes by
 abbrev pub recordOf : State → ℕ → Worker
-recordOf s i = recordIn (s .records) i
+recordOf s i = recordIn (map awake (s .records)) i
 
 -- a worker's seat
 abbrev pub seatOf : State → ℕ → Seat
@@ -91,23 +96,23 @@ pub data Call : Type 0 where
 module _ (s : State) where
   -- what the engine says of the start of a look
   abbrev pub lookBy : ℕ → ℕ → Started
-  lookBy i lot = lookCall (s .board) (seatOf s i) (recordOf s i) lot
+  lookBy i lot = lookCall (s .board) (seatOf s i) (listedOf s i) lot
 
   -- what it says of the start of an insert
   abbrev pub insertBy : ℕ → ℕ → Ticket → Started
-  insertBy i lot t = insertCall (s .board) (seatOf s i) (recordOf s i) (record { lot = lot; ticket = t .number })
+  insertBy i lot t = insertCall (s .board) (seatOf s i) (listedOf s i) (record { lot = lot; ticket = t .number })
 
   -- what it says of the start of a remove
   abbrev pub removeBy : ℕ → ℕ → Started
-  removeBy i lot = removeCall (s .board) (seatOf s i) (recordOf s i) lot
+  removeBy i lot = removeCall (s .board) (seatOf s i) (listedOf s i) lot
 
   -- what it says of one turn
   abbrev pub turnBy : ℕ → After Turned
-  turnBy i = turnCall (s .board) (seatOf s i) (recordOf s i)
+  turnBy i = turnCall (s .board) (seatOf s i) (listedOf s i)
 
   -- what it says of a retiring
   abbrev pub retireBy : ℕ → After Retired
-  retireBy i = retireCall (s .board) (seatOf s i) (recordOf s i)
+  retireBy i = retireCall (s .board) (seatOf s i) (listedOf s i)
 
   -- what it says of a run
   abbrev pub runOf : List ℕ → After Ran
@@ -119,9 +124,10 @@ module _ (s : State) where
 abbrev pub startedAs : State → ℕ → Started → State
 startedAs s i x = record { board = s .board; floor = x .floor; records = set (s .records) i (x .worker) }
 
--- a turn leaves the floor; the board and the worker's record are what it leaves and hands back
+-- a turn leaves the floor; the board and the worker's record are what it leaves and hands back, and the others sleep through it
 abbrev pub turnedAs : State → ℕ → After Turned → State
-turnedAs s i x = record { board = x .words; floor = s .floor; records = set (s .records) i (x .handed .worker) }
+turnedAs s i x =
+    record { board = x .words; floor = s .floor; records = recordsLeft (s .records) i (x .handed .worker) (x .handed .answer) }
 
 -- a retiring leaves the floor; the board and the worker's record are what it leaves and hands back
 abbrev pub retiredAs : State → ℕ → After Retired → State

@@ -19,7 +19,7 @@ use Rattle.history.specs.Trace.{Entry, acted, retired, Changes, Ends, Ow
 use Rattle.history.specs.Moment.{AtTurn}
 use Rattle.history.specs.InCall.{InCall, ownTurns, numberInCall}
 use Rattle.history.specs.Cells.{markAt, keyAt}
-use Rattle.history.specs.History.{State, Opening, Call, Ticket, run, workersOf, recordOf, lookBy, insertBy, removeBy, turnBy, runOf}
+use Rattle.history.specs.History.{State, Opening, Call, Ticket, run, workersOf, listedOf, lookBy, insertBy, removeBy, turnBy, runOf}
 use Rattle.history.specs.History.{startedAs, after, traceFrom, state, trace}
 
 -- ---- the figures
@@ -75,7 +75,7 @@ Alone i es = None (Disturbs i) es
 
 -- worker i is idle
 abbrev pub IsIdle : State → ℕ → Type 0
-IsIdle s i = recordOf s i ≡ idle
+IsIdle s i = listedOf s i ≡ idle
 
 -- §15.2, §15.3: the call that worker i is at in s ends within so many turns of it, if it is alone
 pub record EndsAlone (s : State) (i most : ℕ) : Type 0 where

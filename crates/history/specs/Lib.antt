@@ -13,6 +13,7 @@ pub mod Lots
 pub mod AllOrders
 pub mod InCall
 pub mod HowLong
+pub mod Asleep
 pub mod Retirings
 pub mod Openings
 pub mod Trials

@@ -5,7 +5,7 @@ use mathlib.Core.Path.{_≡_}
 use Rattle.mark.specs.Word.{version, nextVersion}
 use Rattle.turn.specs.Bucket.{markCell}
 use Rattle.turn.specs.Places.{filled}
-use Rattle.history.specs.History.{State, Opening, Call, retire, workersOf, recordOf, retireBy, after, state}
+use Rattle.history.specs.History.{State, Opening, Call, retire, workersOf, listedOf, recordOf, retireBy, after, state}
 use Rattle.history.specs.Cells.{cellsAt, markWordAt, markAt, home, Holds}
 use Rattle.history.specs.HowLong.{IsIdle}
 
@@ -27,7 +27,7 @@ pub record IsRetired (s : State) (i : ℕ) (t : State) : Type 0 where
   -- §19.1: it is idle then
   pub idles : IsIdle t i
   -- the other records and the floor are as they were
-  pub others : (j : ℕ) → (j ≡ i → ⊥) → recordOf t j ≡ recordOf s j
+  pub others : (j : ℕ) → (j ≡ i → ⊥) → listedOf t j ≡ listedOf s j
   pub floor : t .floor ≡ s .floor
   -- §19.2: no cell is touched but the mark word of its bucket, and that only where it held a slot
   pub cells : (b k : ℕ) → (Holds (recordOf s i) → b ≡ bucketOfWorker s i → k ≡ markCell → ⊥) → cellsAt t b k ≡ cellsAt s b k

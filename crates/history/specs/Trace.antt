@@ -10,13 +10,14 @@ use Rattle.turn.specs.declared.Action.the-variants.{Store, Won, Lost}
 use Rattle.turn.specs.declared.Progress.the-variants.{GoesOn}
 use Rattle.turn.specs.declared.Report.{Report}
 
--- a turn that was done: the worker, its record as it was before the turn, and the turn's report, which has the bucket
+-- a turn that was done: the worker, its record as it was before the turn but for how long it had slept, and the turn's report, which has
+-- the bucket
 pub record Turn : Type 0 where
   pub worker : ℕ
   pub was : Worker
   pub report : Report
 
--- §19.4: a worker that was retired: its number, its record as it was before, and the bucket of its lot; there is no report
+-- §19.4: a worker that was retired: its number, its record so, and the bucket of its lot; there is no report
 pub record Retiring : Type 0 where
   pub worker : ℕ
   pub was : Worker

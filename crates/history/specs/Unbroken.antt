@@ -8,13 +8,13 @@ use Rattle.turn.specs.Worker.{broken}
 use Rattle.turn.specs.Bucket.{brokenBucket}
 use Rattle.engine.specs.Board.{bucketAt}
 use Rattle.engine.specs.Refusals.{wrongSizes}
-use Rattle.history.specs.History.{State, recordOf}
+use Rattle.history.specs.History.{State, listedOf}
 
 -- a state of which no part is broken
 pub record Unbroken (s : State) : Type 0 where
   -- floor, board and list fit together
   pub sized : wrongSizes (s .floor) (s .board) (length (s .records)) ≡ false
   -- no worker's record is broken
-  pub records : (i : ℕ) → i < s .floor .workers → broken (recordOf s i) ≡ false
+  pub records : (i : ℕ) → i < s .floor .workers → broken (listedOf s i) ≡ false
   -- no bucket is broken
   pub buckets : (b : ℕ) → b < s .floor .buckets → brokenBucket (bucketAt (s .board) b) ≡ false

@@ -10,7 +10,7 @@ use Rattle.turn.specs.Worker.{lookKind, insertKind}
 use Rattle.engine.specs.Calls.{insertCall}
 use Rattle.sheet.specs.declared.Call as Field
 use Rattle.sheet.specs.Play.{asked}
-use Rattle.history.specs.History.{State, Call, ticket, recordOf, seatOf, startedAs, after, entries}
+use Rattle.history.specs.History.{State, Call, ticket, listedOf, seatOf, startedAs, after, entries}
 use Rattle.plays.specs.Points.{callOf}
 
 -- two choices by one test come to the same where their cases do
@@ -23,7 +23,7 @@ module _ (s : State) (c : Field.Call) where
   -- the call that a field asks for leaves the state that the sheet's start leaves
   pub after-call :
       c .ticket < 2 ^ 32
-      → after s (callOf c) ≡ startedAs s (c .worker) (asked (s .board) (seatOf s (c .worker)) (recordOf s (c .worker)) c)
+      → after s (callOf c) ≡ startedAs s (c .worker) (asked (s .board) (seatOf s (c .worker)) (listedOf s (c .worker)) c)
   unfolding asked
   after-call small =
       let same : ticket (c .ticket) .number ≡ c .ticket = omega arith in
@@ -31,7 +31,7 @@ module _ (s : State) (c : Field.Call) where
       (same-choice (after s) (startedAs s (c .worker)) (eqb (c .kind) insertKind) _ _ _ _
       (ap
       (λ (bid : ℕ).
-      startedAs s (c .worker) (insertCall (s .board) (seatOf s (c .worker)) (recordOf s (c .worker)) (record { lot = c .lot; ticket = bid }))) same)
+      startedAs s (c .worker) (insertCall (s .board) (seatOf s (c .worker)) (listedOf s (c .worker)) (record { lot = c .lot; ticket = bid }))) same)
       refl)
 
   -- the call that a field asks for does no turn

@@ -1,20 +1,21 @@
 -- A point of a play that stands as the calls so far leave an opened board: what its worker's seat and record are there. Assumes nothing.
-use Prim.Native.Nat.{ℕ, _≤_, _<_}
+use Prim.Native.Nat.{ℕ, zero, suc, _≤_, _<_}
 use mathlib.Core.Bool.{Bool}
-use mathlib.Core.Path.{_≡_, sym, ap, _∙_}
-use mathlib.Core.List.{List, [], _∷_}
+use mathlib.Core.Path.{_≡_, refl, sym, ap, _∙_}
+use mathlib.Core.List.{List, [], _∷_, map}
 use native.Mathlib.Decide.{decLe}
 use native.Mathlib.Omega.{arith}
 use lib.ListN.{length, set, take}
 use lib.Seq.{getD-take, take-set-lt}
 use borrow.Author.Tests.{le-leb}
 use Rattle.turn.specs.declared.Worker.{Worker}
+use Rattle.turn.specs.Asleep.{slept}
 use Rattle.engine.specs.declared.Floor.{Floor}
 use Rattle.engine.specs.Refusals.{startNumber, eachNumber, turnNumber}
-use Rattle.engine.specs.Calls.{recordIn, blank}
+use Rattle.engine.specs.Calls.{recordIn, blank, afterTurn}
 use Rattle.engine.proofs.Sizes.{right-listed}
 use Rattle.sheet.specs.Play.{seatAt}
-use Rattle.history.specs.History.{State, Opening, Call, recordOf, seatOf, workersOf, state}
+use Rattle.history.specs.History.{State, Opening, Call, listedOf, seatOf, workersOf, state}
 use Rattle.history.specs.Numbers.{OneOf}
 use Rattle.history.specs.Unbroken.{Unbroken}
 use Rattle.history.proofs.SameSizes.{state-workers}
@@ -40,6 +41,12 @@ turn-past :
     → turnNumber f board listed i w ≡ turnNumber f board listed i v
 unfolding turnNumber eachNumber
 turn-past f board listed i beyond w v = rw (le-leb _ i beyond)
+
+-- the first so many records sleep alike, whoever sleeps beside them
+take-slept : (n : ℕ) (ws : List Worker) → take n (map slept ws) ≡ map slept (take n ws)
+take-slept zero ws = refl
+take-slept (suc n) [] = refl
+take-slept (suc n) (w ∷ ws) = ap (λ (vs : List Worker). slept w ∷ vs) (take-slept n ws)
 
 -- a point of a play that stands so, with all of the program's records
 pub record Stands (o : Opening) (done : List Call) (p : Point) : Type 0 where
@@ -90,7 +97,7 @@ module _ (o : Opening) (done : List Call) (p : Point) (so : Stands o done p) whe
   seat-same i = rw (same-floor, listed)
 
   -- a worker that there is has the same record
-  pub record-same : (i : ℕ) → i < s .floor .workers → recordOf s i ≡ recordIn ws i
+  pub record-same : (i : ℕ) → i < s .floor .workers → listedOf s i ≡ recordIn ws i
   record-same i known =
       let under : i < workersOf o = omega (arith, state-workers o done) in
       ap (λ (l : List Worker). recordIn l i) (sym (so .stands .records)) ∙ getD-take (workersOf o) ws i blank under
@@ -101,16 +108,24 @@ module _ (o : Opening) (done : List Call) (p : Point) (so : Stands o done p) whe
       let under : i < workersOf o = omega (arith, state-workers o done) in
       take-set-lt (workersOf o) ws i v under ∙ ap (λ (l : List Worker). set l i v) (so .stands .records)
 
+  -- so it is after a turn, through which the others sleep
+  pub records-turn : (i : ℕ) (v : Worker) → i < s .floor .workers → take (workersOf o) (afterTurn ws i v) ≡ afterTurn (s .records) i v
+  records-turn i v known =
+      let under : i < workersOf o = omega (arith, state-workers o done) in
+      take-set-lt (workersOf o) (map slept ws) i v under
+      ∙ ap (λ (l : List Worker). set l i v) (take-slept (workersOf o) ws)
+      ∙ ap (λ (l : List Worker). afterTurn l i v) (so .stands .records)
+
   -- ---- the numbers of refusal
 
   -- a number that goes by the record of a worker that there is
   same-number :
       (number : Worker → ℕ) (i : ℕ)
       → (s .floor .workers ≤ i → (w v : Worker) → number w ≡ number v)
-      → number (recordOf s i) ≡ number (recordIn ws i)
+      → number (listedOf s i) ≡ number (recordIn ws i)
   same-number number i past = by (decLe (s .floor .workers) i)
     where
-      by : Dec (s .floor .workers ≤ i) → number (recordOf s i) ≡ number (recordIn ws i)
+      by : Dec (s .floor .workers ≤ i) → number (listedOf s i) ≡ number (recordIn ws i)
       by (yes beyond) = past beyond _ _
       by (no under) = ap number (record-same i (omega arith))
 

@@ -3,9 +3,9 @@ use Prim.Native.Nat.{ℕ, _+_, _<_}
 use mathlib.Core.Path.{_≡_, refl, sym, ap, ap₂, _∙_}
 use mathlib.Core.List.{List, [], _∷_, _++_}
 use native.Mathlib.Omega.{arith}
-use lib.ListN.{set, length-set}
 use Rattle.turn.specs.declared.Worker.{Worker}
 use Rattle.turn.specs.declared.Report.{Report}
+use Rattle.turn.specs.Asleep.{awake}
 use Rattle.turn.specs.Turn.{Answer, Refused, Done, Turned, After, after, numberOf}
 use Rattle.turn.specs.Places.{Step}
 use Rattle.turn.specs.Places as Places
@@ -13,9 +13,10 @@ use Rattle.engine.specs.declared.Floor.{Floor}
 use Rattle.engine.specs.declared.Totals.{Totals}
 use Rattle.engine.specs.declared.Seat.{Seat}
 use Rattle.engine.specs.Refusals.{bucketFor, turnNumber}
-use Rattle.engine.specs.Calls.{recordIn, tallied, reportOn, turnDone, turned, turnCall}
+use Rattle.engine.specs.Calls.{recordIn, afterTurn, tallied, reportOn, turnDone, turned, turnCall}
 use Rattle.engine.proofs.Keeps.{turn-accepted}
 use Rattle.engine.proofs.Numbers.{turn-number}
+use Rattle.engine.proofs.Sleeping.{after-long}
 use Rattle.engine.proofs.Tallies.{losses-lost, losses-other, changes-change, changes-other}
 use Rattle.sheet.specs.Play.{Desk, outcome, seatAt, recordOf, endedLine, turnListed, turnAtDesk}
 use Rattle.history.specs.Trace.{Turn, Entry, acted, total}
@@ -23,11 +24,12 @@ use Rattle.history.specs.Counts.{isTurn, isLost, isChange, oneIf, turnsIn, coun
 use Rattle.history.specs.History.{State, Opening, Call, turn, turnBy, turnedAs, entryOf, opened, state, trace}
 use Rattle.history.proofs.Counts.{one-is, total-append}
 use Rattle.history.proofs.Runs.{same-totals}
+use Rattle.history.proofs.Listed.{up-is}
 use Rattle.history.proofs.Histories.{stateFrom-then, traceFrom-then}
 use Rattle.plays.specs.Points.{Point}
 use Rattle.plays.specs.Plays.{lineFor}
 use Rattle.plays.proofs.Lines.{line-is, end-lines-then}
-use Rattle.plays.proofs.Standing.{Stands, seat-same, record-same, records-set}
+use Rattle.plays.proofs.Standing.{Stands, seat-same, record-same, records-turn}
 
 -- a turn stops with the number of its answer
 listed-stop : (i : ℕ) (w : Worker) (board : List ℕ) (v : Worker) (a : Answer) (d : Desk) → turnListed i w board v a d .stop ≡ numberOf a
@@ -49,7 +51,7 @@ turn-stop i s =
 turn-done :
     (board : List ℕ) (s : Seat) (w : Worker)
     → turnNumber (s .floor) board (s .listed) (s .worker) w ≡ 0
-    → turnCall board s w ≡ turnDone (s .floor) board w (Places.turn (bucketFor (s .floor) board (w .key)) w)
+    → turnCall board s w ≡ turnDone (s .floor) board w (Places.turn (bucketFor (s .floor) board (w .key)) (awake w))
 unfolding turnCall turned
 turn-done board s w none = rw none
 
@@ -78,7 +80,7 @@ module _ (o : Opening) (done : List Call) (p : Point) (so : Stands o done p) (i 
 
   -- what its turn does, on the bucket and on the board
   abbrev step : Step
-  step = Places.turn (bucketFor f (p .left .words) (w .key)) w
+  step = Places.turn (bucketFor f (p .left .words) (w .key)) (awake w)
 
   abbrev did : After Turned
   did = turnDone f (p .left .words) w step
@@ -94,7 +96,7 @@ module _ (o : Opening) (done : List Call) (p : Point) (so : Stands o done p) (i 
   desk-turn :
       turnAtDesk i (p .left)
       ≡ outcome (endedLine (t .turns) i (w .kind) (step .stepped .progress))
-      (after (did .words) (record { floor = f; records = set (d .records) i (step .stepped .worker); totals = t })) 0
+      (after (did .words) (record { floor = f; records = afterTurn (d .records) i (step .stepped .worker); totals = t })) 0
   unfolding turnAtDesk
   desk-turn =
       ap (λ (x : After Turned). turnListed i w (x .words) (x .handed .worker) (x .handed .answer) d)
@@ -108,7 +110,7 @@ module _ (o : Opening) (done : List Call) (p : Point) (so : Stands o done p) (i 
   entryFor v = record { worker = i; was = v; report = report }
 
   abbrev e : Turn
-  e = entryFor w
+  e = entryFor (awake w)
 
   -- the calls with it
   abbrev more : List Call
@@ -121,7 +123,7 @@ module _ (o : Opening) (done : List Call) (p : Point) (so : Stands o done p) (i 
   trace-is =
       traceFrom-then (opened o) done (turn i)
       ∙ ap (λ (x : After Turned). trace o done ++ entryOf s i (x .handed .answer)) history-turn
-      ∙ ap (λ (v : Worker). trace o done ++ (acted (entryFor v) ∷ [])) (record-same o done p so i known)
+      ∙ ap (λ (v : Worker). trace o done ++ (acted (entryFor v) ∷ [])) (up-is s i ∙ ap awake (record-same o done p so i known))
 
   -- a count that goes up by what the entry counts for is that of the trace
   counts-on : (count : Entry → ℕ) (before after : ℕ) → before ≡ total count (trace o done) → after ≡ before + count (acted e) → after ≡ total count (trace o more)
@@ -156,7 +158,7 @@ module _ (o : Opening) (done : List Call) (p : Point) (so : Stands o done p) (i 
             record {
               board = rw (desk-turn, state-is);
               floor = rw (desk-turn, state-is) (so .stands .floor);
-              records = rw (desk-turn, state-is) (records-set o done p so i (step .stepped .worker) known);
+              records = rw (desk-turn, state-is) (records-turn o done p so i (step .stepped .worker) known);
               totals = rw desk-turn totals-are;
               lines =
                   rw (desk-turn, trace-is)
@@ -164,5 +166,5 @@ module _ (o : Opening) (done : List Call) (p : Point) (so : Stands o done p) (i 
                   ∙ ap₂ (λ (l : List ℕ) (n : ℕ). l ++ lineFor (n + 1) e (step .stepped .progress)) (so .stands .lines) turns-are
                   ∙ sym (end-lines-then 1 (trace o done) e));
             };
-        long = rw desk-turn (length-set (d .records) i (step .stepped .worker) ∙ so .long);
+        long = rw desk-turn (after-long (d .records) i (step .stepped .worker) ∙ so .long);
       }

@@ -33,6 +33,8 @@ use Rattle.sheet.proofs.Writing.{wrote-none, wrote-then}
 use Rattle.sheet.proofs.Busy.{busy-none, busy-set-le}
 use Rattle.sheet.proofs.Fielding.{later-field, whole-next, whole-call, whole-turns}
 use Rattle.sheet.proofs.Laying.{laid-refused, laid-done}
+use Rattle.sheet.proofs.Seats.{asked-known, asked-workers}
+use Rattle.sheet.proofs.Sleeping.{IdleFrom, idle-opened, idle-set}
 use Rattle.sheet.proofs.Turns.{few-turn, turnsFrom, turns-here, turns-over}
 
 -- ---- what is left
@@ -89,6 +91,7 @@ module _ (sheet : List ℕ) (total : Ending) (out₀ : List ℕ) where
     pub few : Few turn (d .totals)
     pub room : 13 * due d written ≤ 37 * end
     pub all : length (d .records) ≡ 64
+    pub past : IdleFrom (d .floor .workers) (d .records)
     pub begun : at ≤ end
     pub left : turn ≤ end
     pub some : 1 ≤ end
@@ -130,8 +133,13 @@ module _ (sheet : List ℕ) (total : Ending) (out₀ : List ℕ) where
             last-told _ (toldRefusal number at) later then-lines e
 
         -- it was done
-        pub turn-next : number ≡ 0 → length (x .records) ≡ 64 → due x next ≤ due d written → Standing later page x next at (turn + 1) end
-        turn-next none all less =
+        pub turn-next :
+            number ≡ 0
+            → length (x .records) ≡ 64
+            → IdleFrom (x .floor .workers) (x .records)
+            → due x next ≤ due d written
+            → Standing later page x next at (turn + 1) end
+        turn-next none all past less =
             record {
               more = g .more;
               so-far = g .so-far ++ o .lines;
@@ -145,6 +153,7 @@ module _ (sheet : List ℕ) (total : Ending) (out₀ : List ℕ) where
               few = rw (ap (λ (s : After Desk). s .handed .totals) (did .left)) (few-turn turn (getD sheet turn 0) (after board d) (g .few));
               room = (let was = g .room in omega arith);
               all = all;
+              past = past;
               begun = g .begun;
               left = omega arith;
               some = g .some;
@@ -214,6 +223,14 @@ module _ (sheet : List ℕ) (total : Ending) (out₀ : List ℕ) where
                 let more = busy-set-le (d .records) (c .worker) (x .worker) in
                 omega (arith, long, more, g .room)
 
+            -- the worker that is started is one of the floor's, which stay as many
+            past-next : x .refusal ≡ 0 → IdleFrom (x .floor .workers) (started .records)
+            past-next accepted =
+                let seat = seatOf d (c .worker) in
+                let w = recordOf d (c .worker) in
+                let known = asked-known board seat w c (sym (ap (λ (x : Started). x .refusal) was) ∙ accepted) in
+                rw (was, asked-workers board seat w c) (idle-set _ _ _ _ (known .0) (g .past))
+
             -- it was done
             pub call-next : x .refusal ≡ 0 → Standing board out started written end next next
             call-next accepted =
@@ -227,6 +244,7 @@ module _ (sheet : List ℕ) (total : Ending) (out₀ : List ℕ) where
                   few = few-le turn next _ (omega (arith, n .0, g .left)) (g .few);
                   room = room-next;
                   all = simp length-set (g .all);
+                  past = past-next accepted;
                   begun = omega (arith, n .0);
                   left = omega arith;
                   some = omega (arith, n .0);
@@ -247,6 +265,7 @@ module _ (sheet : List ℕ) (total : Ending) (out₀ : List ℕ) where
               few = few-le turn (span .start) _ (omega (arith, w .0, g .left)) (g .few);
               room = (let was = g .room in omega (arith, n .0));
               all = g .all;
+              past = g .past;
               begun = omega (arith, n .0);
               left = omega (arith, w .1, w .2);
               some = omega (arith, n .0);
@@ -317,6 +336,7 @@ module _ (sheet board : List ℕ) where
         few = record { turns = omega arith; changes = omega arith; lost = omega arith; full = omega arith };
         room = omega (arith, none);
         all = refl;
+        past = idle-opened (f .workers);
         begun = omega arith;
         left = omega arith;
         some = some;

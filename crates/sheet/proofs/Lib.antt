@@ -13,6 +13,7 @@ pub mod Laying
 pub mod OneTurn
 pub mod RightSizes
 pub mod Seats
+pub mod Sleeping
 pub mod TooLong
 pub mod Turns
 pub mod Writing

@@ -1,7 +1,7 @@
 -- The starts of the engine at a desk's seats: what holds of each, and who they are given to. Assumes nothing.
 use Prim.Native.Nat.{ℕ, _≤_, _<_}
 use mathlib.Core.Bool.{Bool}
-use mathlib.Core.Path.{_≡_}
+use mathlib.Core.Path.{_≡_, refl}
 use mathlib.Core.List.{List}
 use lib.Dec.{eqb}
 use borrow.Author.Tests.{leb-false, eqb-true}
@@ -52,3 +52,16 @@ module _ (board : List ℕ) (s : Seat) (w : Worker) where
   -- so is one that a call asks for
   pub asked-known : (c : Call) → asked board s w c .refusal ≡ 0 → (s .worker < s .floor .workers) × (s .floor .workers ≤ 64)
   asked-known = asked-is Known (λ late new ticket. start-known late new _)
+
+  -- a start, accepted or refused, leaves as many workers
+  start-workers :
+      (late : Bool) (new : Worker) (ticket : ℕ)
+      → startCall board s w late new (spending (s .floor) ticket) .floor .workers ≡ s .floor .workers
+  unfolding startCall
+  start-workers late new ticket =
+      by-cases (λ (x : Started). x .floor .workers ≡ s .floor .workers)
+      (eqb (startNumber (s .floor) board (s .listed) (s .worker) w late) 0) _ _ (λ is. refl) (λ isnot. refl)
+
+  -- so does one that a call asks for
+  pub asked-workers : (c : Call) → asked board s w c .floor .workers ≡ s .floor .workers
+  asked-workers = asked-is (λ (x : Started). x .floor .workers ≡ s .floor .workers) start-workers

@@ -15,7 +15,7 @@ use Rattle.engine.specs.declared.Plan.{Plan}
 use Rattle.engine.specs.declared.Seat.{Seat}
 use Rattle.engine.specs.declared.Started.{Started}
 use Rattle.engine.specs.declared.Totals.{Totals}
-use Rattle.engine.specs.Calls.{Opened, openCall, lookCall, insertCall, removeCall, turnCall, tallied, noTurns, recordIn}
+use Rattle.engine.specs.Calls.{Opened, openCall, lookCall, insertCall, removeCall, turnCall, tallied, noTurns, recordIn, afterTurn}
 use Rattle.sheet.specs.declared.Call.{Call}
 use Rattle.sheet.specs.declared.Span.{Span}
 use Rattle.sheet.specs.declared.Field.{Field}
@@ -106,13 +106,13 @@ abbrev pub endedLine : ℕ → ℕ → ℕ → Progress → List ℕ
 endedLine turn worker kind GoesOn = []
 endedLine turn worker kind (Ended answer) = endLine turn worker kind answer
 
--- §9.1: what a turn of worker i came to; its number is how many turns are done with it
+-- §9.1, §20.2: what a turn of worker i came to; its number is how many turns are done with it, and whoever else is busy slept through it
 abbrev pub turnListed : ℕ → Worker → List ℕ → Worker → Answer → Desk → Outcome
 turnListed i w board v (Refused number) d = outcome [] (after board d) number
 turnListed i w board v (Done report) d =
     let t : Totals = tallied (w .place) report (d .totals) in
     outcome (endedLine (t .turns) i (w .kind) (report .progress))
-    (after board (record { floor = d .floor; records = set (d .records) i v; totals = t }))
+    (after board (record { floor = d .floor; records = afterTurn (d .records) i v; totals = t }))
     0
 
 -- one turn is the engine's

@@ -1,13 +1,15 @@
 -- What the public functions promise (§12.1), the program's `listed`, and of the private ones those whose promise has several parts.
 use Prim.Native.Nat.{ℕ, _≤_, _<_}
+use mathlib.Core.Bool.{cond}
 use mathlib.Core.Path.{_≡_}
 use mathlib.Core.List.{List}
-use lib.ListN.{length, set}
+use lib.ListN.{length}
+use lib.Dec.{eqb}
 use Rattle.turn.specs.declared.Worker.{Worker}
 use Rattle.turn.specs.Turn.{after}
 use Rattle.engine.specs.declared.Floor.{Floor}
 use Rattle.engine.specs.declared.Totals.{Totals}
-use Rattle.engine.specs.Calls.{recordIn}
+use Rattle.engine.specs.Calls.{recordIn, afterTurn}
 use Rattle.sheet.specs.declared.Took.{Took}
 use Rattle.sheet.specs.declared.Played.{Played}
 use Rattle.sheet.specs.Play.{Desk, deskOf, Outcome, turnAtDesk}
@@ -21,19 +23,20 @@ pub record Does (o : Outcome) (out : List ℕ) (written : ℕ) (later board : Li
   pub left : after board d ≡ o .left
   pub stop : number ≡ o .stop
 
--- the desk with the record that a turn of worker i hands back
+-- §20.2: the desk with the record that a turn of worker i hands back, and the others as they sleep through it; one that is refused
+-- leaves the records
 abbrev pub putBack : Floor → List Worker → ℕ → Took → Desk
-putBack f ws i t = deskOf f (set ws i (t .worker)) (t .totals)
+putBack f ws i t = deskOf f (cond (eqb (t .stop) 0) (afterTurn ws i (t .worker)) ws) (t .totals)
 
 -- one turn of worker i with record w, whatever the other records are: the buffer before and after, the board that is left, and what is
--- handed back; where it is done its worker has a record, and it makes no more lines due
+-- handed back; where it is done its worker is one of the floor's, which are 64 at most, and it makes no more lines due
 pub record Takes (board : List ℕ) (f : Floor) (i : ℕ) (w : Worker) (t : Totals) (out : List ℕ) (written : ℕ) (later left : List ℕ) (r : Took) :
     Type 0 where
   pub does :
       (ws : List Worker)
       → recordIn ws i ≡ w
       → Does (turnAtDesk i (after board (deskOf f ws t))) out written later left (putBack f ws i r) (r .written) (r .stop)
-  pub known : r .stop ≡ 0 → i < 64
+  pub known : r .stop ≡ 0 → (i < f .workers) × (f .workers ≤ 64)
   pub less : (ws : List Worker) → recordIn ws i ≡ w → length ws ≡ 64 → due (putBack f ws i r) (r .written) ≤ due (deskOf f ws t) written
 
 -- what is told was written from a place on: the buffer before and after, and the desk and the number that are handed back with it

@@ -15,6 +15,7 @@ use engine::tally;
 use turn::Worker;
 use turn::record;
 use turn::refusal;
+use turn::sleep;
 
 mod reading; // the fields of the sheet
 mod line; // a line of the listing
@@ -185,6 +186,14 @@ fn later_fields(
             let took = play::turn(board, floor, worker, w, totals, out, written);
             if took.stop != 0 {
                 return refused(out, took.written, took.stop, at);
+            }
+            // §20.2: the floor's workers sleep through it, past whom nobody is busy; its own worker's record is put back after that
+            let mut k = 0;
+            while k < floor.workers {
+                let sleeper = records[k];
+                let slept = sleep::slept(sleeper);
+                records[k] = slept;
+                k += 1;
             }
             let left = took.worker;
             records[i] = left;

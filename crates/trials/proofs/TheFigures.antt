@@ -4,6 +4,7 @@ use mathlib.Core.Path.{refl}
 use mathlib.Core.List.{flatMap}
 use Rattle.mark.specs.Word as Word
 use Rattle.turn.specs.Worker as Record
+use Rattle.turn.specs.Asleep as Asleep
 use Rattle.turn.specs.Bucket as Bucket
 use Rattle.turn.specs.Places as Places
 use Rattle.turn.specs.Turn as Turn
@@ -15,15 +16,15 @@ use Rattle.walks.specs.Calls as Walks
 use Rattle.trials.specs.Trial.{AllHold, playedFrom, moreTurns}
 use Rattle.trials.specs.Figures.{figures}
 
--- §18.6: they hold
+-- §18.6, §20.4: they hold
 pub the-figures-hold : AllHold figures
 unfolding
     playedFrom moreTurns flatMap
     Walks.ordersCall Walks.ordersNumber Walks.anyRecordBroken Orders.counted Orders.orders Orders.allIdle Orders.busyFrom
     Calls.openCall Calls.startCall Calls.turned Calls.turnCall Calls.runFrom Calls.runCall
     Refusals.wrongFloor Refusals.wrongSizes Refusals.openNumber Refusals.startNumber Refusals.eachNumber Refusals.turnNumber Refusals.runNumber
-    Turn.turnRefusal Record.broken Record.isIdle Record.sound Record.fits Record.mayStand Record.ticketFits Record.heldFits Record.wordFits
+    Turn.turnRefusal Record.broken Record.isIdle Record.sound Record.fits Record.mayStand Record.ticketFits Record.heldFits Record.wordFits Asleep.slept
     Bucket.brokenBucket Places.turn Places.lookFound Places.lookEmpty Places.findSlot Places.nextSlot Places.nextKey
     Places.after1 Places.after2 Places.after3 Places.after4 Places.after5 Places.after11 Places.after12
     Board.openedBoard Word.version Word.markOf Word.byte7 Word.setMark Word.bump Word.firstEmpty Word.wellFormed
-the-figures-hold = (refl, (refl, (refl, tt)))
+the-figures-hold = (refl, (refl, (refl, (refl, (refl, (refl, tt))))))

@@ -2,6 +2,7 @@
 use mathlib.Core.Path.{refl}
 use Rattle.mark.specs.Word as Word
 use Rattle.turn.specs.Worker as Record
+use Rattle.turn.specs.Asleep as Asleep
 use Rattle.turn.specs.Bucket as Bucket
 use Rattle.turn.specs.Places as Places
 use Rattle.turn.specs.Turn as Turn
@@ -17,7 +18,7 @@ unfolding
     playedFrom moreTurns
     Calls.openCall Calls.startCall Calls.turned Calls.turnCall
     Refusals.wrongFloor Refusals.wrongSizes Refusals.openNumber Refusals.startNumber Refusals.eachNumber Refusals.turnNumber
-    Turn.turnRefusal Record.broken Record.isIdle Record.sound Record.fits Record.mayStand Record.ticketFits Record.heldFits Record.wordFits
+    Turn.turnRefusal Record.broken Record.isIdle Record.sound Record.fits Record.mayStand Record.ticketFits Record.heldFits Record.wordFits Asleep.slept
     Bucket.brokenBucket Places.turn Places.lookFound Places.lookEmpty Places.findSlot Places.nextSlot Places.nextKey
     Places.after1 Places.after2 Places.after3 Places.after4 Places.after5 Places.after11 Places.after12
     Board.openedBoard Word.version Word.markOf Word.byte7 Word.setMark Word.bump Word.firstEmpty Word.wellFormed

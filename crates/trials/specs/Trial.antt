@@ -19,7 +19,7 @@ use Rattle.engine.specs.declared.Seat.{Seat}
 use Rattle.engine.specs.declared.Started.{Started}
 use Rattle.engine.specs.declared.Totals.{Totals}
 use Rattle.engine.specs.Board.{bucketAt}
-use Rattle.engine.specs.Calls.{Opened, openCall, lookCall, insertCall, removeCall, turnCall, tallied, noTurns, blank, recordIn, seatIn}
+use Rattle.engine.specs.Calls.{Opened, openCall, lookCall, insertCall, removeCall, turnCall, tallied, noTurns, blank, recordIn, seatIn, afterTurn}
 use Rattle.walks.specs.declared.Walked.{Walked}
 use Rattle.walks.specs.declared.Walked.the-variants.{Refusal, Orders}
 use Rattle.walks.specs.Calls.{ordersCall}
@@ -46,6 +46,8 @@ pub data Request : Type 0 where
   wordRead : ℕ → Request
   -- at what place is a worker?
   placeOf : ℕ → Request
+  -- how many turns of others has it slept through?
+  asleepOf : ℕ → Request
   -- what is the floor's last ticket?
   lastTicket : Request
   -- what do all orders of turns from here come to, to a depth?
@@ -169,13 +171,13 @@ byReport Lost GoesOn = loses
 -- what a turn leaves, done or refused, is what the engine hands back; one that is done is counted
 abbrev pub turnedAt : ℕ → Standing → List ℕ → Worker → Answer → Came
 turnedAt i s board w (Refused number) =
-    came (refused number) (record { board = board; floor = s .floor; records = set (s .records) i w; had = s .had; counted = s .counted })
+    came (refused number) (record { board = board; floor = s .floor; records = s .records; had = s .had; counted = s .counted })
 turnedAt i s board w (Done report) =
     came (byReport (report .action) (report .progress))
     (record {
       board = board;
       floor = s .floor;
-      records = set (s .records) i w;
+      records = afterTurn (s .records) i w;
       had = set (s .had) i (hadBy s i + 1);
       counted = tallied (recordOf s i .place) report (s .counted);
     })
@@ -211,6 +213,7 @@ answering totals s = came (counts (s .counted .turns) (s .counted .changes) (s .
 answering markWord s = came (is (cell (bucketAt (s .board) 0) markCell)) s
 answering (wordRead i) s = came (is (recordOf s i .word)) s
 answering (placeOf i) s = came (is (recordOf s i .place)) s
+answering (asleepOf i) s = came (is (recordOf s i .asleep)) s
 answering lastTicket s = came (is (s .floor .last)) s
 answering (allOrders depth) s = came (byWalks (ordersCall (s .board) (s .floor) (s .records) (length (s .records)) depth)) s
 

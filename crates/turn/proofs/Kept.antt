@@ -8,7 +8,7 @@ use native.Mathlib.Omega.{arith}
 use lib.Dec.{eqb}
 use borrow.Author.Tests.{eqb-true, ne-eqb, le-leb}
 use Rattle.mark.specs.Word.{markOf, byte7, setMark, wellFormed}
-use Rattle.mark.proofs.Choices.{by-cases}
+use Rattle.mark.proofs.Choices.{by-cases, not-both}
 use Rattle.mark.proofs.WellFormed.{well-formed-set, well-formed-bump}
 use Rattle.turn.specs.declared.Worker.{Worker}
 use Rattle.turn.specs.declared.Progress.{Progress}
@@ -17,7 +17,7 @@ use Rattle.turn.specs.declared.Stepped.{Stepped}
 use Rattle.turn.specs.Worker.{idle, lookFor, insertOf, removeOf, isIdle, ticketFits, wordFits, broken}
 use Rattle.turn.specs.Bucket.{cell, markCell, spareCell}
 use Rattle.turn.specs.Places.{turn}
-use Rattle.turn.proofs.Sound.{Sound, Whole, Accepted, sound-not-broken}
+use Rattle.turn.proofs.Sound.{Sound, Whole, Accepted, sound-busy, sound-not-broken}
 use Rattle.turn.proofs.Works.{Works, looking, inserting, filling, beginning, works-stands, works-held, works-within}
 use Rattle.turn.proofs.Lands.{Lands, reads, goes, loses, answers, claims, commits, frees, closes}
 use Rattle.turn.proofs.Landing.{turn-lands}
@@ -27,7 +27,7 @@ use Rattle.turn.proofs.Values.{turn-beside, filled}
 -- ---- idle records
 
 fields-idle :
-    (k p l t s m h v : ℕ)
+    (k p l t s m h v n : ℕ)
     → k ≡ 0
     → p ≡ 0
     → l ≡ 0
@@ -36,8 +36,9 @@ fields-idle :
     → m ≡ 0
     → h ≡ 3
     → v ≡ 0
-    → _≡_ {A = Worker} (record { kind = k; place = p; key = l; ticket = t; slot = s; word = m; held = h; seen = v }) idle
-fields-idle k p l t s m h v e1 e2 e3 e4 e5 e6 e7 e8 = cc
+    → n ≡ 0
+    → _≡_ {A = Worker} (record { kind = k; place = p; key = l; ticket = t; slot = s; word = m; held = h; seen = v; asleep = n }) idle
+fields-idle k p l t s m h v n e1 e2 e3 e4 e5 e6 e7 e8 e9 = cc
 
 -- the test of idle says that the record is the idle one
 pub idle-is : (w : Worker) → isIdle w ≡ true → w ≡ idle
@@ -49,10 +50,11 @@ idle-is w is =
     let d = and-eq-true-iff (eqb (w .ticket) 0) _ .0 (c .1) in
     let e = and-eq-true-iff (eqb (w .slot) 0) _ .0 (d .1) in
     let f = and-eq-true-iff (eqb (w .word) 0) _ .0 (e .1) in
-    let g = and-eq-true-iff (eqb (w .held) 3) (eqb (w .seen) 0) .0 (f .1) in
+    let g = and-eq-true-iff (eqb (w .held) 3) _ .0 (f .1) in
+    let h = and-eq-true-iff (eqb (w .seen) 0) (eqb (w .asleep) 0) .0 (g .1) in
     let zero : (n : ℕ) → eqb n 0 ≡ true → n ≡ 0 = λ n is. eqb-true n 0 is in
-    fields-idle _ _ _ _ _ _ _ _ (zero _ (a .0)) (zero _ (b .0)) (zero _ (c .0)) (zero _ (d .0)) (zero _ (e .0)) (zero _ (f .0))
-    (eqb-true _ 3 (g .0)) (zero _ (g .1))
+    fields-idle _ _ _ _ _ _ _ _ _ (zero _ (a .0)) (zero _ (b .0)) (zero _ (c .0)) (zero _ (d .0)) (zero _ (e .0)) (zero _ (f .0))
+    (eqb-true _ 3 (g .0)) (zero _ (h .0)) (zero _ (h .1))
 
 -- a record that is not the idle one does not pass for it
 pub not-idle : (w : Worker) → (w ≡ idle → ⊥) → isIdle w ≡ false
@@ -71,7 +73,11 @@ pub is-idle : isIdle idle ≡ true
 unfolding isIdle
 is-idle = refl
 
--- and is not broken
+-- so that a sound one is another
+pub sound-some : (w : Worker) → Sound w → w ≡ idle → ⊥
+sound-some w s is = not-both _ (sound-busy w s) (rw is is-idle)
+
+-- it is not broken
 pub idle-kept : broken idle ≡ false
 unfolding broken isIdle
 idle-kept = refl

@@ -26,7 +26,7 @@ elsewhere w other = record { at-claim = λ is. absurd (other .0 is); at-close = 
 
 -- the record at another place and slot, with another value seen: all that a turn changes which leaves the mark word alone
 abbrev pub moved : ℕ → ℕ → ℕ → Worker → Worker
-moved p s v w = record { kind = w .kind; place = p; key = w .key; ticket = w .ticket; slot = s; word = w .word; held = w .held; seen = v }
+moved p s v w = record { kind = w .kind; place = p; key = w .key; ticket = w .ticket; slot = s; word = w .word; held = w .held; seen = v; asleep = w .asleep }
 
 -- a swap comes out as won or as lost
 abbrev pub isSwap : Action → Bool

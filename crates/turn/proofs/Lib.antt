@@ -1,3 +1,4 @@
+pub mod Asleep
 pub mod Cells
 pub mod Effects
 pub mod Kept

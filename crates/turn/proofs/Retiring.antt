@@ -17,7 +17,9 @@ use Rattle.turn.specs.Worker.{noSlot, idle, isIdle, broken}
 use Rattle.turn.specs.Bucket.{markCell, spareCell, cell, brokenBucket}
 use Rattle.turn.specs.Effects.{Effect, none, retire, effectOn, effectOfRetiring}
 use Rattle.turn.specs.Retire.{retireRefusal, vacated}
-use Rattle.turn.proofs.Sound.{Sound, Whole, not-broken, whole-parts}
+use Rattle.turn.specs.Asleep.{awake}
+use Rattle.turn.proofs.Sound.{Sound, Whole, sound-busy, not-broken, whole-parts}
+use Rattle.turn.proofs.Asleep.{asleep-sound}
 use Rattle.turn.proofs.Works.{works, works-holder}
 use Rattle.turn.proofs.Effects.{Moves, answers, retires}
 
@@ -39,6 +41,12 @@ pub record Retirable (b : List ℕ) (w : Worker) : Type 0 where
   pub sound : Sound w
   pub busy : isIdle w ≡ false
   pub whole : (w .held ≡ noSlot → ⊥) → Whole b
+
+-- a retiring of who is awake is no other
+pub awake-retirable : (b : List ℕ) (w : Worker) → Retirable b w → Retirable b (awake w)
+awake-retirable b w ok =
+    let s = asleep-sound 0 w (ok .sound) in
+    record { sound = s; busy = sound-busy (awake w) s; whole = ok .whole }
 
 -- that is a retiring with no number of refusal
 pub retirable : (b : List ℕ) (w : Worker) → retireRefusal b w ≡ 0 → Retirable b w

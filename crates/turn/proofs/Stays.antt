@@ -32,7 +32,7 @@ module _ (w : Worker) where
   on :
       (p s m v : ℕ)
       → (p ≡ ticketPlace → ⊥)
-      → StaysOn w (record { kind = w .kind; place = p; key = w .key; ticket = w .ticket; slot = s; word = m; held = w .held; seen = v })
+      → StaysOn w (record { kind = w .kind; place = p; key = w .key; ticket = w .ticket; slot = s; word = m; held = w .held; seen = v; asleep = w .asleep })
   on p s m v other = record { call = record { kind = refl; key = refl; ticket = refl }; held = λ isnot. refl; past = λ some. other }
 
   lands-on : {m n : ℕ} {x : Stepped} → Lands m n w x → (x .worker ≡ idle → ⊥) → StaysOn w (x .worker)

@@ -1,4 +1,5 @@
 pub mod Worker
+pub mod Asleep
 pub mod Bucket
 pub mod Places
 pub mod Ready

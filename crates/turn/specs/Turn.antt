@@ -11,6 +11,7 @@ use Rattle.turn.specs.declared.Stepped.{Stepped}
 use Rattle.turn.specs.declared.Said.{Said}
 use Rattle.turn.specs.declared.Tried.{Tried}
 use Rattle.turn.specs.Worker.{isIdle, broken}
+use Rattle.turn.specs.Asleep.{awake}
 use Rattle.turn.specs.Bucket.{markCell, cell, brokenBucket}
 use Rattle.turn.specs.Places.{Step, turn}
 
@@ -84,8 +85,9 @@ done w report place = record { worker = w; said = record { report = report; refu
 -- one turn on the words of the bucket of this number, refused or done
 unfoldable pub tryTurn : ℕ → List ℕ → Worker → After Tried
 tryTurn bucket words w =
+    let s = turn words (awake w) in
     cond (eqb (turnRefusal words w) 0)
-    (after (turn words w .bucket) (done (turn words w .stepped .worker) (reportOf bucket words (turn words w)) (w .place)))
+    (after (s .bucket) (done (s .stepped .worker) (reportOf bucket words s) (w .place)))
     (after words (refused (turnRefusal words w) w))
 
 -- the answer in what a turn says

@@ -53,13 +53,13 @@ noSlot = 3
 
 -- §3.3: the idle record
 abbrev pub idle : Worker
-idle = record { kind = 0; place = 0; key = 0; ticket = 0; slot = 0; word = 0; held = noSlot; seen = 0 }
+idle = record { kind = 0; place = 0; key = 0; ticket = 0; slot = 0; word = 0; held = noSlot; seen = 0; asleep = 0 }
 
 -- ---- the record that a start leaves
 
 -- §3.4: a start of this kind, at this place, with this lot and this ticket
 abbrev pub started : ℕ → ℕ → ℕ → ℕ → Worker
-started k p lot t = record { kind = k; place = p; key = lot; ticket = t; slot = 0; word = 0; held = noSlot; seen = 0 }
+started k p lot t = record { kind = k; place = p; key = lot; ticket = t; slot = 0; word = 0; held = noSlot; seen = 0; asleep = 0 }
 
 -- §3.4: a look, which reads no mark word whole
 abbrev pub lookFor : ℕ → Worker
@@ -77,23 +77,23 @@ removeOf lot = started removeKind readPlace lot 0
 
 -- §4.2: at another place
 abbrev pub goTo : ℕ → Worker → Worker
-goTo p w = record { kind = w .kind; place = p; key = w .key; ticket = w .ticket; slot = w .slot; word = w .word; held = w .held; seen = w .seen }
+goTo p w = record { kind = w .kind; place = p; key = w .key; ticket = w .ticket; slot = w .slot; word = w .word; held = w .held; seen = w .seen; asleep = w .asleep }
 
 -- §4.2: at another place and slot
 abbrev pub atSlot : ℕ → ℕ → Worker → Worker
-atSlot p s w = record { kind = w .kind; place = p; key = w .key; ticket = w .ticket; slot = s; word = w .word; held = w .held; seen = w .seen }
+atSlot p s w = record { kind = w .kind; place = p; key = w .key; ticket = w .ticket; slot = s; word = w .word; held = w .held; seen = w .seen; asleep = w .asleep }
 
 -- §4.2: at another place, with the value that it saw
 abbrev pub saw : ℕ → ℕ → Worker → Worker
-saw p v w = record { kind = w .kind; place = p; key = w .key; ticket = w .ticket; slot = w .slot; word = w .word; held = w .held; seen = v }
+saw p v w = record { kind = w .kind; place = p; key = w .key; ticket = w .ticket; slot = w .slot; word = w .word; held = w .held; seen = v; asleep = w .asleep }
 
 -- §4.2: at another place and slot 0, with the mark word that it read
 abbrev pub readWord : ℕ → ℕ → Worker → Worker
-readWord p m w = record { kind = w .kind; place = p; key = w .key; ticket = w .ticket; slot = 0; word = m; held = w .held; seen = w .seen }
+readWord p m w = record { kind = w .kind; place = p; key = w .key; ticket = w .ticket; slot = 0; word = m; held = w .held; seen = w .seen; asleep = w .asleep }
 
 -- §4.2, §5.6: it holds its slot, and has the word that it swapped in
 abbrev pub claimed : ℕ → Worker → Worker
-claimed m w = record { kind = w .kind; place = ticketPlace; key = w .key; ticket = w .ticket; slot = w .slot; word = m; held = w .slot; seen = w .seen }
+claimed m w = record { kind = w .kind; place = ticketPlace; key = w .key; ticket = w .ticket; slot = w .slot; word = m; held = w .slot; seen = w .seen; asleep = w .asleep }
 
 -- ---- idle and broken records
 
@@ -107,7 +107,8 @@ isIdle w =
     && (eqb (w .slot) 0
     && (eqb (w .word) 0
     && (eqb (w .held) 3
-    && eqb (w .seen) 0))))))
+    && (eqb (w .seen) 0
+    && eqb (w .asleep) 0)))))))
 
 -- from lo to hi, both included
 abbrev pub within : ℕ → ℕ → ℕ → Bool

@@ -4,6 +4,7 @@ ghost use Rattle.turn.specs.Turn.{bucketRefusal, turnRefusal, after, noR
 
 pub mod refusal; // the numbers
 pub mod record; // idle, started and broken records
+pub mod sleep; // the turns of others that a worker sleeps through
 pub mod bucket; // broken buckets
 pub mod retire; // a worker that will not return
 mod place; // the place table
@@ -15,6 +16,7 @@ pub struct Worker {
     pub word: u64,
     pub seen: u64,
     pub ticket: u32,
+    pub asleep: u32,
     pub slot: u8,
     pub kind: u8,
     pub place: u8,
@@ -161,7 +163,7 @@ pub fn try_turn(lent: &mut [u64], bucket: usize, w: Worker) -> Tried
     let refusal = turn_refusal(lent, w);
     if refusal == 0 {
         let before = lent[0];
-        let stepped = place::step(lent, w);
+        let stepped = place::step(lent, sleep::awake(w));
         let report = reported(stepped, bucket, before, lent[0]);
         return done(stepped.worker, report, w.place);
     }

@@ -58,6 +58,7 @@ fn started(kind: u8, place: u8, lot: u64, ticket: u32) -> Worker
         word: 0,
         held: mark::NO_SLOT,
         seen: 0,
+        asleep: 0,
     }
 }
 
@@ -86,7 +87,10 @@ pub fn is_idle(w: Worker) -> bool
     if w.held != mark::NO_SLOT {
         return false;
     }
-    w.seen == 0
+    if w.seen != 0 {
+        return false;
+    }
+    w.asleep == 0
 }
 
 // §3.7, §14.1: where a look may stand.

@@ -9,6 +9,7 @@ use Rattle.turn.specs.declared.Worker.{Worker}
 use Rattle.turn.specs.declared.Action.{Action}
 use Rattle.turn.specs.declared.Action.the-variants.{Read, Store, Won, Lost}
 use Rattle.turn.specs.Worker.{isIdle}
+use Rattle.turn.specs.Asleep.{slept}
 use Rattle.turn.specs.Turn.{tryTurn}
 use Rattle.engine.specs.Calls.{losses}
 use Rattle.walks.specs.declared.Walks.{Walks}
@@ -70,7 +71,7 @@ few-begun n depth rest bound words own next last lost room =
     let now = lost + losses (t .handed .said .report .action) in
     by-cases (Few n) (isIdle own) _ _
     (λ is. record { finished = omega arith; cut = omega arith; lost = omega arith })
-    (λ isnot. bound (t .words) (t .handed .worker) next last now (omega (arith, lost-once (t .handed .said .report .action))))
+    (λ isnot. bound (t .words) (t .handed .worker) (slept next) (slept last) now (omega (arith, lost-once (t .handed .said .report .action))))
 
 -- no count of the walks with so many turns left is more than the most
 few-walks :

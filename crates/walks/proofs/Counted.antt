@@ -5,14 +5,14 @@ use mathlib.Core.Bool.{Bool, true, cond}
 use mathlib.Core.Path.{_≡_, refl, sym, ap, ap₂, _∙_}
 use mathlib.Core.List.{List, [], _∷_, _++_, map, flatMap}
 use native.Mathlib.Omega.{arith}
-use lib.ListN.{length, set}
+use lib.ListN.{length}
 use Rattle.mark.proofs.Choices.{by-cases}
 use Rattle.turn.specs.declared.Worker.{Worker}
 use Rattle.turn.specs.Worker.{isIdle}
 use Rattle.turn.specs.Turn.{turnRefusal, tryTurn}
 use Rattle.turn.proofs.Sound.{whole-not-broken, sound-not-broken}
 use Rattle.engine.specs.declared.Floor.{Floor}
-use Rattle.engine.specs.Calls.{losses, recordIn}
+use Rattle.engine.specs.Calls.{losses, recordIn, afterTurn}
 use Rattle.walks.specs.declared.Walks.{Walks}
 use Rattle.walks.specs.Lists.{Each}
 use Rattle.walks.specs.Orders.{ran, allIdle, Busy, busyFrom, orders, noWalks, oneWalk, together, counted}
@@ -37,7 +37,7 @@ summed next i (w ∷ ws) = together (cond (isIdle w) noWalks (next i w)) (summed
 abbrev pub turnThen : (List ℕ → List Worker → ℕ → Walks) → List ℕ → List Worker → ℕ → Next
 turnThen rest board records lost i w =
     let t = tryTurn 0 board w in
-    rest (t .words) (set records i (t .handed .worker)) (lost + losses (t .handed .said .report .action))
+    rest (t .words) (afterTurn records i (t .handed .worker)) (lost + losses (t .handed .said .report .action))
 
 -- all walks with so many turns left, and so many swaps lost before
 unfoldable pub walksFrom : ℕ → List ℕ → List Worker → ℕ → Walks

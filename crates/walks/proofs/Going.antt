@@ -3,15 +3,16 @@ use Prim.Native.Nat.{ℕ, suc, _+_, _≤_}
 use mathlib.Core.Path.{_≡_, refl, sym, ap, _∙_}
 use mathlib.Core.List.{List, [], _∷_}
 use native.Mathlib.Omega.{arith}
-use lib.ListN.{length, set}
+use lib.ListN.{length}
 use Rattle.turn.specs.declared.Worker.{Worker}
 use Rattle.turn.specs.declared.Report.{Report}
+use Rattle.turn.specs.Asleep.{awake}
 use Rattle.turn.specs.Places.{turn}
 use Rattle.turn.specs.Turn.{Answer, Refused, Done, After, noReport}
 use Rattle.engine.specs.declared.Floor.{Floor}
 use Rattle.engine.specs.declared.Totals.{Totals}
 use Rattle.engine.specs.Refusals.{eachNumber}
-use Rattle.engine.specs.Calls.{Ran, reportOn, losses, turned, recordIn, standing, unbegun, noTurns, tallied, goOn, runFrom}
+use Rattle.engine.specs.Calls.{Ran, reportOn, losses, turned, recordIn, afterTurn, standing, unbegun, noTurns, tallied, goOn, runFrom}
 use Rattle.engine.proofs.Stops.{doneBy, next-done}
 use Rattle.engine.proofs.Adding.{added-none, counting, run-adds, run-goes-whole}
 use Rattle.walks.specs.Orders.{ran, Busy}
@@ -59,16 +60,16 @@ module _ {f : Floor} {board : List ℕ} {records : List Worker} (g : Sitting f b
   w = recordIn records i
 
   abbrev report : Report
-  report = reportOn f board w (turn board w)
+  report = reportOn f board w (turn board (awake w))
 
   abbrev pub boardAfter : List ℕ
-  boardAfter = turn board w .bucket
+  boardAfter = turn board (awake w) .bucket
 
   abbrev pub recordsAfter : List Worker
-  recordsAfter = set records i (turn board w .stepped .worker)
+  recordsAfter = afterTurn records i (turn board (awake w) .stepped .worker)
 
   abbrev pub lossOf : ℕ
-  lossOf = losses (turn board w .stepped .action)
+  lossOf = losses (turn board (awake w) .stepped .action)
 
   done-is : doneBy f i (unbegun board records 0) ≡ standing boardAfter recordsAfter (tallied (w .place) report noTurns) report 0
   done-is = rw (own-bucket g (w .key), only-bucket f (w .key) (g .one), board-is-bucket board boardAfter (g .whole .eight))

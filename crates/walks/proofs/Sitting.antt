@@ -6,19 +6,22 @@ use mathlib.Core.Path.{_≡_, _∙_}
 use mathlib.Core.List.{List, append-nil}
 use native.Mathlib.Decide.{ℕ-discrete}
 use native.Mathlib.Omega.{arith}
-use lib.ListN.{length, set, length-set, drop-of-length-le}
-use lib.Seq.{take-all, getD-set-same, getD-set-other}
+use lib.ListN.{length, drop-of-length-le}
+use lib.Seq.{take-all}
 use Rattle.turn.specs.declared.Worker.{Worker}
 use Rattle.turn.specs.Worker.{broken}
+use Rattle.turn.specs.Asleep.{awake}
 use Rattle.turn.specs.Places.{turn}
 use Rattle.turn.proofs.Sound.{Whole, whole-not-broken, Accepted, not-broken}
 use Rattle.turn.proofs.Kept.{turn-whole, turn-sound}
+use Rattle.turn.proofs.Asleep.{awake-accepted, slept-broken}
 use Rattle.engine.specs.declared.Floor.{Floor}
 use Rattle.engine.specs.Board.{bucketAt, withBucket}
 use Rattle.engine.specs.Refusals.{bucketFor, eachNumber, wrongSizes}
-use Rattle.engine.specs.Calls.{blank, recordIn}
+use Rattle.engine.specs.Calls.{recordIn, afterTurn}
 use Rattle.engine.proofs.Sizes.{sizes-right}
 use Rattle.engine.proofs.Keeps.{each-unrefused}
+use Rattle.engine.proofs.Sleeping.{after-long, own-after, other-after}
 use Rattle.walks.specs.Orders.{Busy}
 
 -- one bucket, which is whole, and a record for each worker, none of them broken
@@ -77,19 +80,25 @@ module _ {f : Floor} {board : List ℕ} {records : List Worker} (g : Sitting f b
         let there : i < f .workers = omega (arith, g .listed, b .listed) in
         each-unrefused f board i w there (g .sound i (b .listed)) (b .busy) (rw (own-bucket (w .key)) (whole-not-broken board (g .whole)))
 
-    sound-after : (j : ℕ) → j < length records → Dec (j ≡ i) → broken (recordIn (set records i (turn board w .stepped .worker)) j) ≡ false
-    sound-after j low (yes is) =
-        rw (is, getD-set-same records i (turn board w .stepped .worker) blank (b .listed)) (turn-sound board w busy-accepted)
-    sound-after j low (no isnot) = rw (getD-set-other records i j (turn board w .stepped .worker) blank isnot) (g .sound j low)
+    -- who has it is awake
+    up : Accepted board (awake w)
+    up = awake-accepted board w busy-accepted
+
+    abbrev left : Worker
+    left = turn board (awake w) .stepped .worker
+
+    sound-after : (j : ℕ) → j < length records → Dec (j ≡ i) → broken (recordIn (afterTurn records i left) j) ≡ false
+    sound-after j low (yes is) = rw (is, own-after records i left (b .listed)) (turn-sound board (awake w) up)
+    sound-after j low (no isnot) = rw (other-after records i left j isnot, slept-broken (recordIn records j)) (g .sound j low)
 
     -- the turn leaves such a class
-    pub turn-sits : Sitting f (turn board w .bucket) (set records i (turn board w .stepped .worker))
+    pub turn-sits : Sitting f (turn board (awake w) .bucket) (afterTurn records i left)
     turn-sits =
         record {
           one = g .one;
-          whole = turn-whole board w busy-accepted;
-          listed = length-set records i _ ∙ g .listed;
+          whole = turn-whole board (awake w) up;
+          listed = after-long records i left ∙ g .listed;
           some = g .some;
           few = g .few;
-          sound = λ j low. sound-after j (rw (length-set records i (turn board w .stepped .worker)) at low) (ℕ-discrete j i);
+          sound = λ j low. sound-after j (rw (after-long records i left) at low) (ℕ-discrete j i);
         }

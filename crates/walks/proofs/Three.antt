@@ -3,15 +3,17 @@
 use Prim.Native.Nat.{ℕ, zero, suc, _+_, _<_}
 use mathlib.Core.Bool.{Bool, true, cond, _&&_, and-true, and-comm, and-assoc}
 use mathlib.Core.Path.{_≡_, refl, sym, ap, ap₂, _∙_}
-use mathlib.Core.List.{List, [], _∷_, _++_}
+use mathlib.Core.List.{List, [], _∷_, _++_, map}
 use native.Mathlib.Omega.{arith}
-use lib.ListN.{length, set}
+use lib.ListN.{length, length-map}
 use lib.Seq.{set-append-left}
 use Rattle.turn.specs.declared.Worker.{Worker}
 use Rattle.turn.specs.Worker.{isIdle, idle}
+use Rattle.turn.specs.Asleep.{slept}
 use Rattle.turn.specs.Turn.{tryTurn}
 use Rattle.turn.proofs.Kept.{is-idle}
-use Rattle.engine.specs.Calls.{losses}
+use Rattle.turn.proofs.Asleep.{slept-idle}
+use Rattle.engine.specs.Calls.{losses, afterTurn}
 use Rattle.walks.specs.declared.Walks.{Walks}
 use Rattle.walks.specs.Orders.{allIdle, noWalks, oneWalk, together}
 use Rattle.walks.specs.Walk.{threeIdle, begunBy, begun, walks}
@@ -28,7 +30,15 @@ unfolding allIdle
 idle-more [] = rw is-idle
 idle-more (w ∷ ws) = rw (idle-more ws)
 
--- who is idle begins no walk
+-- who sleeps on through every turn
+slept-more : (ws : List Worker) → map slept (with-idle ws) ≡ with-idle (map slept ws)
+slept-more [] = rw slept-idle
+slept-more (w ∷ ws) = rw (slept-more ws)
+
+after-idle : (ws : List Worker) (i : ℕ) (w : Worker) → i < length ws → afterTurn (with-idle ws) i w ≡ with-idle (afterTurn ws i w)
+after-idle ws i w low = rw (slept-more ws) (set-append-left (map slept ws) (idle ∷ []) i w (rw (length-map ws slept) low))
+
+-- and begins no walk
 summed-idle :
     (more less : Next) (k : ℕ) (ws : List Worker)
     → ((i : ℕ) (w : Worker) → i < k + length ws → more i w ≡ less i w)
@@ -47,8 +57,8 @@ walksFrom-idle (suc depth) board ws lost =
     summed-idle (turnThen (walksFrom depth) board (with-idle ws) lost) (turnThen (walksFrom depth) board ws lost) 0 ws (λ i w low.
     let t = tryTurn 0 board w in
     let low-is : i < length ws = omega arith in
-    rw (set-append-left ws (idle ∷ []) i (t .handed .worker) low-is)
-    (walksFrom-idle depth (t .words) (set ws i (t .handed .worker)) (lost + losses (t .handed .said .report .action)))) in
+    rw (after-idle ws i (t .handed .worker) low-is)
+    (walksFrom-idle depth (t .words) (afterTurn ws i (t .handed .worker)) (lost + losses (t .handed .said .report .action)))) in
     rw (idle-more ws, next)
 
 -- ---- three
@@ -82,16 +92,17 @@ module _
     begins :
         (i : ℕ) (own other last : Worker)
         → ((words : List ℕ) (w : Worker) (lost : ℕ)
-        → walksFrom depth words (set (a ∷ b ∷ c ∷ []) i w) lost ≡ walks depth words w other last lost)
+        → walksFrom depth words (afterTurn (a ∷ b ∷ c ∷ []) i w) lost ≡ walks depth words w (slept other) (slept last) lost)
         → cond (isIdle own) noWalks (next i own) ≡ from own other last
     begins i own other last same = ap (cond (isIdle own) noWalks) (same _ _ _)
 
     sums-three : summed next 0 (a ∷ b ∷ c ∷ []) ≡ begun (walks depth) words a b c lost
     unfolding summed
     sums-three =
-        let first = begins 0 a b c (λ v w l. rest v w b c l) in
-        let second = begins 1 b c a (λ v w l. rest v a w c l ∙ walks-rotate depth v a w c l) in
-        let third = begins 2 c a b (λ v w l. rest v a b w l ∙ walks-rotate depth v a b w l ∙ walks-rotate depth v b w a l) in
+        let first = begins 0 a b c (λ v w l. rest v w (slept b) (slept c) l) in
+        let second = begins 1 b c a (λ v w l. rest v (slept a) w (slept c) l ∙ walks-rotate depth v (slept a) w (slept c) l) in
+        let third =
+        begins 2 c a b (λ v w l. rest v (slept a) (slept b) w l ∙ walks-rotate depth v (slept a) (slept b) w l ∙ walks-rotate depth v (slept b) w (slept a) l) in
         ap₂ together first (ap₂ together second (ap₂ together third refl ∙ together-none _))
         ∙ sym (together-assoc (from a b c) (from b c a) (from c a b))
 

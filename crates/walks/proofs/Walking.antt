@@ -7,7 +7,9 @@ use native.Mathlib.Omega.{arith}
 use Rattle.turn.specs.declared.Worker.{Worker}
 use Rattle.turn.specs.declared.Tried.{Tried}
 use Rattle.turn.specs.Worker.{isIdle}
+use Rattle.turn.specs.Asleep.{slept}
 use Rattle.turn.specs.Turn.{After, tryTurn}
+use Rattle.turn.proofs.Asleep.{slept-idles}
 use Rattle.engine.specs.Calls.{losses}
 use Rattle.walks.specs.declared.Walks.{Walks}
 use Rattle.walks.specs.Orders.{oneWalk, together}
@@ -43,12 +45,16 @@ module _ (words : List ℕ) (a b c : Worker) (lost : ℕ) where
       let same : suc depth - 1 ≡ depth = omega arith in
       rw (busy, ← same, ← first, ← second, ← third) (sums ∙ ap (λ (x : Walks). together x three) sum)
 
+-- nobody is idle, or busy, for having slept
+pub idle-slept : (a b c : Worker) → threeIdle a (slept b) (slept c) ≡ threeIdle a b c
+idle-slept a b c = rw (slept-idles b, slept-idles c)
+
 -- who is busy has its turn, and the walks go on from what that leaves
 pub begun-busy :
     (rest : Walking) (words : List ℕ) (own next last : Worker) (lost : ℕ) (x : After Tried) (once : ℕ) (r : Walks)
     → x ≡ tryTurn 0 words own
     → once ≡ losses (x .handed .said .report .action)
     → isIdle own ≡ false
-    → r ≡ rest (x .words) (x .handed .worker) next last (lost + once)
+    → r ≡ rest (x .words) (x .handed .worker) (slept next) (slept last) (lost + once)
     → r ≡ begunBy rest words own next last lost
 begun-busy rest words own next last lost x once r is counts busy e = rw (← is, busy, ← counts) e

@@ -6,6 +6,7 @@ use mathlib.Core.List.{List}
 use lib.Dec.{ltb}
 use Rattle.turn.specs.declared.Worker.{Worker}
 use Rattle.turn.specs.Worker.{isIdle, idle, broken}
+use Rattle.turn.specs.Asleep.{slept}
 use Rattle.turn.specs.Turn.{tryTurn, bucketRefusal}
 use Rattle.engine.specs.Calls.{losses}
 use Rattle.walks.specs.declared.Walks.{Walks}
@@ -19,11 +20,11 @@ Walking = List ℕ → Worker → Worker → Worker → ℕ → Walks
 abbrev pub threeIdle : Worker → Worker → Worker → Bool
 threeIdle a b c = isIdle a && (isIdle b && isIdle c)
 
--- the walks that begin with a turn of the first of three, and go on so
+-- the walks that begin with a turn of the first of three, through which the others sleep, and go on so
 abbrev pub begunBy : Walking → Walking
 begunBy rest words own next last lost =
     let t = tryTurn 0 words own in
-    cond (isIdle own) noWalks (rest (t .words) (t .handed .worker) next last (lost + losses (t .handed .said .report .action)))
+    cond (isIdle own) noWalks (rest (t .words) (t .handed .worker) (slept next) (slept last) (lost + losses (t .handed .said .report .action)))
 
 -- the walks that begin with a turn of any of the three; each of them has the other two in turn behind it
 abbrev pub begun : Walking → Walking

@@ -8,6 +8,7 @@ use crate::Walks;
 use turn::Action;
 use turn::Worker;
 use turn::record;
+use turn::sleep;
 
 // No walk at all.
 fn none() -> Walks
@@ -88,8 +89,8 @@ pub fn are_idle(a: Worker, b: Worker, c: Worker) -> bool
     record::is_idle(c)
 }
 
-// §14.12, §18.3: the walks that begin with a turn of `own`: it has its turn, and where somebody is busy after that, and turns are left, they
-// go on with a turn of each. Of who is idle there are none.
+// §14.12, §18.3: the walks that begin with a turn of `own`: it has its turn, and where somebody is busy after that, and turns are left, they go
+// on with a turn of each. Of who is idle there are none. The others sleep through the turn; a walk that ends with it need not count that.
 pub fn begun_by(
     depth: usize,
     words: [u64; 8],
@@ -117,6 +118,8 @@ pub fn begun_by(
     if depth == 0 {
         return one(false, so_far);
     }
+    let next = sleep::slept(next);
+    let last = sleep::slept(last);
     let first = begun_by(depth - 1, after, left, next, last, so_far);
     let second = begun_by(depth - 1, after, next, last, left, so_far);
     let third = begun_by(depth - 1, after, last, left, next, so_far);

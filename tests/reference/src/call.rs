@@ -30,7 +30,7 @@ impl Call {
     /// A call made from a sound record that isn't idle: the code is led to the record's place and stands there.
     pub fn resume(record: &Record, bucket: Bucket) -> Call {
         let call = Call::paused(Frame::of(record, bucket, true), record.kind);
-        assert_eq!(call.record(), *record);
+        assert_eq!(call.record(), record.awake());
         call
     }
 
@@ -49,7 +49,7 @@ impl Call {
             .poll(&mut Context::from_waker(Waker::noop()))
     }
 
-    /// The record of the call as it stands.
+    /// The record of the call as it stands after its start or a turn of its own, so with no turn of others since (§20.1).
     pub fn record(&self) -> Record {
         self.frame.record()
     }

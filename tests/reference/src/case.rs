@@ -143,7 +143,7 @@ fn push_record(body: &mut Vec<u8>, record: &Record) {
 }
 
 /// The fields in their order.
-pub fn fields(record: &Record) -> [u64; 8] {
+pub fn fields(record: &Record) -> [u64; 9] {
     [
         record.kind.into(),
         record.place.into(),
@@ -153,6 +153,7 @@ pub fn fields(record: &Record) -> [u64; 8] {
         record.word,
         record.held.into(),
         record.seen,
+        record.asleep.into(),
     ]
 }
 
@@ -200,6 +201,7 @@ impl Bytes<'_> {
             word: self.number(),
             held: self.number() as u8,
             seen: self.number(),
+            asleep: self.number() as u32,
         }
     }
 

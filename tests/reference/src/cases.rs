@@ -1,5 +1,6 @@
 //! The cases: directed ones, so that every point is met, and random ones beside them.
 
+mod asleep;
 mod broken;
 mod build;
 pub mod length;
@@ -45,6 +46,7 @@ fn round(seed: u64) -> Bodies {
     reports::make(&mut bodies);
     orders::make(&mut bodies);
     retire::make(&mut bodies);
+    asleep::make(&mut bodies);
     loose::make(&mut bodies);
     bodies
 }

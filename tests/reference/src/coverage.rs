@@ -1,5 +1,6 @@
 //! What the stored cases must meet. A point counts by what a case and its outcome are, not by what the case was made for.
 
+mod asleep;
 mod broken;
 mod orders;
 mod places;
@@ -41,6 +42,7 @@ impl Coverage {
         reports::see(case, outcome, &mut met);
         orders::see(case, outcome, &mut met);
         retire::see(case, outcome, &mut met);
+        asleep::see(case, outcome, &mut met);
         met.sort();
         met.dedup();
         for point in met {

@@ -148,7 +148,17 @@ impl Desk {
             None => call.record(),
         };
         self.keep(at, report.ended.is_none().then_some(call));
+        self.others_sleep_on(at);
         Ok(report)
+    }
+
+    /// §20.2.
+    fn others_sleep_on(&mut self, awake: usize) {
+        for (at, record) in self.list.records.iter_mut().enumerate() {
+            if at != awake {
+                *record = record.slept_on();
+            }
+        }
     }
 
     /// §4.10; refused as §7.2 has it. `told` hears of each turn done, with the record before it.

@@ -57,7 +57,7 @@ impl Frame {
         }
     }
 
-    /// The record that describes this frame.
+    /// The record that describes this frame. The figures have no variable for the turns of others.
     pub fn record(&self) -> Record {
         Record {
             kind: self.kind,
@@ -71,6 +71,7 @@ impl Frame {
                 index => index as u8,
             },
             seen: self.val.get(),
+            asleep: 0,
         }
     }
 

@@ -45,7 +45,9 @@ impl Walks {
     }
 }
 
-/// What an order leads to. The lost swaps are a part of it, since walks that differ in them must not be taken for one.
+/// What an order leads to. The lost swaps are a part of it, since walks that differ in them must not be taken for one. How long each
+/// worker is asleep is not (§20.1): it makes no busy record broken and is 0 in an idle one, and no turn asks for it, so whatever it is the
+/// walks from here on are the same and count the same. Were it a part, hardly any two orders would lead to one state.
 #[derive(Clone, PartialEq, Eq, Hash)]
 struct State {
     words: Vec<u64>,
@@ -54,6 +56,16 @@ struct State {
 }
 
 impl State {
+    /// What is left out makes nobody idle who was not: no record of a walk is broken, since all orders is refused where one is.
+    fn of(desk: &Desk, lost: u64) -> State {
+        let records = desk.list.records.iter();
+        State {
+            words: desk.board.words(),
+            records: records.map(|record| record.awake()).collect(),
+            lost,
+        }
+    }
+
     fn is_finished(&self) -> bool {
         self.records.iter().all(Record::is_idle)
     }
@@ -67,12 +79,8 @@ impl State {
         let mut desk = Desk::brought(floor, &self.words, list, Manner::Remade);
         let turn = desk.turn(worker as u64);
         let report = turn.expect("§18.3: no turn of a walk is refused");
-        let state = State {
-            words: desk.board.words(),
-            records: desk.list.records,
-            lost: self.lost + u64::from(report.action == Action::Lost),
-        };
-        (state, report)
+        let lost = self.lost + u64::from(report.action == Action::Lost);
+        (State::of(&desk, lost), report)
     }
 }
 
@@ -95,12 +103,7 @@ impl Walking {
             finished: Tally::default(),
             turns: 0,
         };
-        let outset = State {
-            words: desk.board.words(),
-            records: desk.list.records.clone(),
-            lost: 0,
-        };
-        walking.lead_to(outset, 1);
+        walking.lead_to(State::of(desk, 0), 1);
         walking
     }
 
@@ -113,7 +116,7 @@ impl Walking {
     }
 
     /// Every order that is not at its end goes on by one turn, in each way there is. `told` hears once of each turn of each state, with
-    /// the worker's record before it.
+    /// the worker's record before it, but for how long it was asleep.
     pub fn go_on(&mut self, told: &mut dyn FnMut(&Record, &Report)) {
         for (state, orders) in std::mem::take(&mut self.level) {
             for (worker, record) in state.records.iter().enumerate() {

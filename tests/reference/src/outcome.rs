@@ -106,13 +106,8 @@ pub fn line(case: &Case, outcome: &Outcome) -> String {
     push_words(&mut line, &outcome.board);
     push(&mut line, format_args!("|"));
     for (record, count) in groups(&outcome.records, usize::MAX) {
-        let [kind, place, key, ticket, slot, word, held, seen] = fields(&record);
-        push(
-            &mut line,
-            format_args!(
-                "{kind:x}.{place:x}.{key:x}.{ticket:x}.{slot:x}.{word:x}.{held:x}.{seen:x}"
-            ),
-        );
+        let fields = fields(&record).map(|field| format!("{field:x}"));
+        push(&mut line, format_args!("{}", fields.join(".")));
         push_count(&mut line, count);
     }
     line.push('\n');

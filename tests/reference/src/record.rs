@@ -1,4 +1,4 @@
-//! A worker's record: the eight fields, what is idle and what is broken.
+//! A worker's record: the nine fields (§3.2), what is idle and what is broken.
 
 use crate::word::{snap_set_map, Snapshot, KEY_BUCKT, MAP_INSRT};
 
@@ -20,6 +20,8 @@ pub struct Record {
     pub word: u64,
     pub held: u8,
     pub seen: u64,
+    /// §20.1.
+    pub asleep: u32,
 }
 
 impl Record {
@@ -34,6 +36,7 @@ impl Record {
             word: 0,
             held: NONE,
             seen: 0,
+            asleep: 0,
         }
     }
 
@@ -41,12 +44,33 @@ impl Record {
         *self == Record::idle()
     }
 
+    /// §20.2: whether a turn of somebody else counts for this one.
+    pub fn is_sleeper(&self) -> bool {
+        !self.is_idle() && !self.is_broken()
+    }
+
+    /// The record after a turn of somebody else.
+    pub fn slept_on(self) -> Record {
+        match self.is_sleeper() {
+            true => Record {
+                asleep: self.asleep.saturating_add(1),
+                ..self
+            },
+            false => self,
+        }
+    }
+
+    /// All that a call goes by: no turn asks for how long its worker was asleep.
+    pub fn awake(self) -> Record {
+        Record { asleep: 0, ..self }
+    }
+
     /// The mark word that the commit of a sound insert expects, if it holds a slot.
     pub fn commit_expects(&self) -> Option<u64> {
         (self.held != NONE).then(|| snap_set_map(self.word, self.held, MAP_INSRT))
     }
 
-    /// §3.7.
+    /// §3.7. A busy record may have any number in `asleep`.
     pub fn is_broken(&self) -> bool {
         let busy = self.place_fits()
             && self.ticket_fits()

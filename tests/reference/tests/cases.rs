@@ -70,6 +70,18 @@ fn bounds_of_the_format() {
     let list = Case::read(&body).list;
     assert_eq!((list.length, list.records.len()), (320, 320));
     assert_eq!((list.records[255].kind, list.records[256].kind), (2, 0));
+    // of the last number of a record the lowest four bytes
+    let mut body = vec![0; 8];
+    body.extend([1, 0, 0, 0, 0, 0, 0, 0, 3, 0, 252, 9, 255, 255, 255, 254]);
+    let records = Case::read(&body).list.records;
+    let asleep = u32::MAX - 1;
+    assert_eq!(
+        records,
+        [Record {
+            asleep,
+            ..Record::idle()
+        }]
+    );
     let mut body = vec![0; 9];
     body.extend([1, 0, 2, 3, 255, 255, 4, 255, 255, 5, 1]);
     let turns = Case::read(&body).turns;
@@ -110,7 +122,7 @@ fn lines_of_the_format() {
     (insert.lot, insert.ticket) = (7, 1);
     assert_eq!(
         line_of(&insert),
-        "insert 0 | 2 1 1 | 0*8 | 2.1.7.1.0.0.3.0 0.0.0.0.0.0.3.0\n"
+        "insert 0 | 2 1 1 | 0*8 | 2.1.7.1.0.0.3.0.0 0.0.0.0.0.0.3.0.0\n"
     );
     let mut turn = opened(4, 1);
     turn.floor.last_ticket = 1;
@@ -124,10 +136,11 @@ fn lines_of_the_format() {
         word: 8_589_934_592,
         held: 0,
         seen: 0,
+        asleep: 5,
     };
     assert_eq!(
         line_of(&turn),
-        "turn 0 3 1 1 0 0 200000000 100000001 | 1 1 1 | 100000001 7 0*2 1 0*3 | 0.0.0.0.0.0.3.0\n"
+        "turn 0 3 1 1 0 0 200000000 100000001 | 1 1 1 | 100000001 7 0*2 1 0*3 | 0.0.0.0.0.0.3.0.0\n"
     );
     let twice = Case {
         call: 5,
@@ -136,35 +149,43 @@ fn lines_of_the_format() {
     };
     assert_eq!(
         line_of(&twice),
-        "run 6 1 1 0 0 3 1 1 0 0 200000000 100000001 | 1 1 1 | 100000001 7 0*2 1 0*3 | 0.0.0.0.0.0.3.0\n"
+        "run 6 1 1 0 0 3 1 1 0 0 200000000 100000001 | 1 1 1 | 100000001 7 0*2 1 0*3 | 0.0.0.0.0.0.3.0.0\n"
     );
     assert_eq!(
         line_of(&opened(4, 1)),
-        "turn 6 0 0 0 0 0 0 0 | 1 1 0 | 0*8 | 0.0.0.0.0.0.3.0\n"
+        "turn 6 0 0 0 0 0 0 0 | 1 1 0 | 0*8 | 0.0.0.0.0.0.3.0.0\n"
     );
     assert_eq!(
         line_of(&opened(5, 1)),
-        "run 0 0 0 0 0 1 0 0 0 0 0 0 | 1 1 0 | 0*8 | 0.0.0.0.0.0.3.0\n"
+        "run 0 0 0 0 0 1 0 0 0 0 0 0 | 1 1 0 | 0*8 | 0.0.0.0.0.0.3.0.0\n"
     );
     assert_eq!(
         line_of(&opened(6, 1)),
-        "show 0 0 | 0*8 | 1 1 0 | 0*8 | 0.0.0.0.0.0.3.0\n"
+        "show 0 0 | 0*8 | 1 1 0 | 0*8 | 0.0.0.0.0.0.3.0.0\n"
     );
-    let mut orders = opened(8, 2);
-    assert_eq!(
-        line_of(&orders),
-        "orders a 0 0 0 0 | 2 1 0 | 0*8 | 0.0.0.0.0.0.3.0*2\n"
-    );
-    orders.worker = 24;
-    orders.list.records.fill(Record {
+    let mut beside = opened(4, 3);
+    let look = Record {
         kind: LOOK,
         place: 2,
         key: 7,
         ..Record::idle()
-    });
+    };
+    let others = [9, u32::MAX].map(|asleep| Record { asleep, ..look });
+    beside.list.records = vec![look, others[0], others[1]];
+    assert_eq!(
+        line_of(&beside),
+        "turn 0 1 0 0 0 0 0 0 | 3 1 0 | 0*8 | 1.3.7.0.0.0.3.0.0 1.2.7.0.0.0.3.0.a 1.2.7.0.0.0.3.0.ffffffff\n"
+    );
+    let mut orders = opened(8, 2);
     assert_eq!(
         line_of(&orders),
-        "orders 0 39c 0 0 0 | 2 1 0 | 0*8 | 1.2.7.0.0.0.3.0*2\n"
+        "orders a 0 0 0 0 | 2 1 0 | 0*8 | 0.0.0.0.0.0.3.0.0*2\n"
+    );
+    orders.worker = 24;
+    orders.list.records.fill(look);
+    assert_eq!(
+        line_of(&orders),
+        "orders 0 39c 0 0 0 | 2 1 0 | 0*8 | 1.2.7.0.0.0.3.0.0*2\n"
     );
     let retire = Case {
         call: RETIRE,
@@ -172,11 +193,11 @@ fn lines_of_the_format() {
     };
     assert_eq!(
         line_of(&retire),
-        "retire 0 | 1 1 1 | 1 7 0*2 1 0*3 | 0.0.0.0.0.0.3.0\n"
+        "retire 0 | 1 1 1 | 1 7 0*2 1 0*3 | 0.0.0.0.0.0.3.0.0\n"
     );
     assert_eq!(
         line_of(&opened(9, 1)),
-        "retire 6 | 1 1 0 | 0*8 | 0.0.0.0.0.0.3.0\n"
+        "retire 6 | 1 1 0 | 0*8 | 0.0.0.0.0.0.3.0.0\n"
     );
 }
 
@@ -259,8 +280,8 @@ fn the_stored_cases_meet_every_point() {
     assert_eq!(stored.coverage.unmet(), Vec::<String>::new());
     assert_eq!(lines(&stored.stream), stored.lines);
     assert!(stored.lines.lines().count() >= 5_000);
-    // a mebibyte and three eighths
-    assert!(stored.stream.len() + stored.lines.len() < 11 << 17);
+    // a mebibyte and a half
+    assert!(stored.stream.len() + stored.lines.len() < 12 << 17);
 }
 
 #[test]

@@ -2,6 +2,8 @@
 //! And the third demand (§11.3) with its bound. Tried on opened boards with retirings anywhere, with code that lives and with code made
 //! anew from the records; which turns are changes and moments is told by their places, so that the words are held against something else.
 
+mod sleeper;
+
 use reference::desk::{Desk, Manner};
 use reference::random::Random;
 use reference::record::{INSERT, LOOK, NONE, REMOVE};
@@ -335,6 +337,8 @@ fn runs_and_turns(seed: u64, manner: Manner, met: &mut BTreeSet<(u8, bool)>) {
         let single = give_singly(&mut desks[1], &turns);
         assert_eq!((number, ran.last, ran.counts.turns), single);
         met.insert((number, ran.counts.turns > 0));
+        // §20.2: the numbers of the others too
+        assert_eq!(desks[0].list, desks[1].list);
         for desk in &mut desks {
             spoil(desk, why, worker);
         }
@@ -368,17 +372,8 @@ fn a_run_that_is_refused_whole_keeps_none() {
 #[test]
 fn the_sleeper() {
     for manner in MANNERS {
-        let mut desk = Desk::opened(2, 1, 0, manner).unwrap();
         let mut reports = Vec::new();
-        for (worker, kind, ticket, turns) in [
-            (0, INSERT, 1, 11),
-            (1, REMOVE, 0, 3),
-            (0, REMOVE, 0, 4),
-            (0, INSERT, 2, 11),
-        ] {
-            desk.start(kind, worker, 7, ticket).unwrap();
-            reports.extend((0..turns).map(|_| desk.turn(worker).unwrap()));
-        }
+        let mut desk = sleeper::asleep(manner, |_, report| reports.push(report));
         reports.extend((0..5).map(|_| desk.turn(1).unwrap()));
         assert_eq!(reports.len(), 34);
         let told = |turn: usize| {

@@ -1,4 +1,4 @@
--- A walk of `desk_open_floor`: the board goes to the engine's opening for good, and the list to `make_idle`. Assumes nothing.
+-- A walk of `desk_open_floor`: the board goes to the engine's opening for good, and the list to `put_all`. Assumes nothing.
 use mathlib.Core.Path.{_≡_, refl}
 use Prim.Native.Nat.{ℕ, _*_}
 use mathlib.Core.List.{[], _∷_}
@@ -30,9 +30,15 @@ use denote.Triple.Statement.{Triple}
 use denote.Triple.Table.{entered, cited}
 use denote.Triple.Walked.{says, Stays, gave-slice, stay-none, goes-gave-slice, goes-none}
 use denote.Exit.{yes}
+use Rattle.turn.specs.Worker.{idle}
 use Rattle.engine.specs.Promises.{FloorLaid}
 use Rattle.floor.specs.declared.Outcome.{Outcome}
-use Rattle.floor.specs.Lent.{idled}
+use Rattle.engine.specs.Firsts.{firsts}
+use Rattle.turn.proofs.Worker as T
+use Rattle.turn.proofs.Worker.Laws as T′
+use Rattle.turn.proofs.record.idle as idle-fn
+use Rattle.turn.proofs.record.idle.Symbol as idle-def
+use Rattle.turn.proofs.record.idle.Met as idle-thm
 use Rattle.engine.proofs.Floor as F
 use Rattle.engine.proofs.Floor.Laws as F′
 use Rattle.engine.proofs.Plan as P
@@ -45,12 +51,12 @@ use Rattle.engine.proofs.open_floor.Met as core-thm
 use Rattle.floor.proofs.Outcome as N
 use Rattle.floor.proofs.Outcome.Laws as N′
 use Rattle.floor.proofs.Walk.{walk-closes, var, sets, gets, loc, gone, full, span, arg, arg-num, cited-call, relends, part}
-use Rattle.floor.proofs.Records.{row}
+use Rattle.floor.proofs.Records.{row, vals, val, typed, arg-worker}
 use Rattle.floor.proofs.Leaves.{given-call}
 use Rattle.floor.proofs.Opening.{open-left}
-use Rattle.floor.proofs.list.make_idle as idle-all
-use Rattle.floor.proofs.list.make_idle.Symbol as idle-def
-use Rattle.floor.proofs.list.make_idle.Met as idle-thm
+use Rattle.floor.proofs.list.put_all as put-all
+use Rattle.floor.proofs.list.put_all.Symbol as put-def
+use Rattle.floor.proofs.list.put_all.Met as put-thm
 use Rattle.floor.proofs.desk_open_floor.Key.{name as #open}
 use Rattle.floor.proofs.desk_open_floor as open-fn
 use Rattle.floor.proofs.desk_open_floor.Statement as stated
@@ -64,9 +70,10 @@ stayed = (
 
 open-meets : {M : Type 1} (𝓤 : URA M) (H : Heap 𝓤) (A : Atoms 𝓤) → Given 𝓤 H A → (mem : Memory → SProp 𝓤) (run : Routine → Fun 𝓤) (𝓣 : Tables 𝓤 H)
     → Triple 𝓤 (𝓣 .C core-def.name) (tripleOf 𝓤 H A core.signature (core.spec 𝓤 H A mem run))
-    → Triple 𝓤 (𝓣 .C idle-def.name) (tripleOf 𝓤 H A idle-all.signature (idle-all.spec 𝓤 H A mem run))
+    → Triple 𝓤 (𝓣 .C idle-def.name) (tripleOf 𝓤 H A idle-fn.signature (idle-fn.spec 𝓤 H A mem run))
+    → Triple 𝓤 (𝓣 .C put-def.name) (tripleOf 𝓤 H A put-all.signature (put-all.spec 𝓤 H A mem run))
     → Meets 𝓤 H A open-fn.signature (WpFn 𝓤 H (𝓣 .C) (𝓣 .Λ) code.function) (open-fn.spec 𝓤 H A mem run)
-open-meets 𝓤 H A W mem run 𝓣 cores idles = walk-closes 𝓤 H A W open-fn.ended stayed (
+open-meets 𝓤 H A W mem run 𝓣 cores idles puts = walk-closes 𝓤 H A W open-fn.ended stayed (
   goes-gave-slice 𝓤 H A W 2 0 tt (plain (λ _. u64)),
   (
     goes-gave-slice 𝓤 H A W 2 1 tt (plain (λ _. row)),
@@ -81,25 +88,25 @@ open-meets 𝓤 H A W mem run 𝓣 cores idles = walk-closes 𝓤 H A W open-fn.
     )) (λ κs qs bounds a g are Post ends.
     let bs = a .0 .now in let ys = a .1 .0 .now in let f = a .1 .1 .0 in let p = a .1 .1 .1 .0 in
     let n = length ys in let n-fits = are .1 .0 .0 .1 .0 in
-    let v : ℕ → ℕ → ℕ = loc 12 in
+    let v : ℕ → ℕ → ℕ = loc 13 in
     qed W ((‵ (flft (κs .0) (qs .0)) ⊛ (‵ (flft (κs .1 .0) (qs .1 .0)) ⊛ ‵ ftrue)) ∷ ‵ (owns
     (MutSlice (named 0) (κs .0) u64 ∷ MutSlice (named 1) (κs .1 .0) row ∷ F.the-row ∷ P.the-row ∷ []) a _) ∷ []) ∵
     enter ! (𝓣 .C) (𝓣 .Λ) code.function _ _ $
     alloc1 ! (λ l₀. alloc1 ! (λ l₁. alloc1 ! (λ l₂. alloc1 ! (λ l₃. alloc1 ! (λ l₄. alloc1 ! (λ l₅. alloc1 ! (λ l₆. alloc1 ! (λ l₇. alloc1 ! (λ l₈.
-    alloc1 ! (λ l₉. alloc1 ! (λ l₁₀. alloc1 ! (λ l₁₁. alloc0 ! $ params1 ! $
+    alloc1 ! (λ l₉. alloc1 ! (λ l₁₀. alloc1 ! (λ l₁₁. alloc1 ! (λ l₁₂. alloc0 ! $ params1 ! $
     pass1 ! (init ! (v 0 1) refl (tt, (tt, (record { fits = are .0 .0 .1 .0 }, tt)))) $
     pass1 ! (init ! (v 0 2) refl (tt, (tt, (record { fits = n-fits }, tt)))) $
     pass1 ! (init ! (v 0 3) refl (LL.lawful F.the-type F′.the-laws 𝓤 H A W .typed f _ (are .1 .1 .0) .0)) $
     pass1 ! (init ! (v 0 4) refl (LL.lawful P.the-type P′.the-laws 𝓤 H A W .typed p _ (are .1 .1 .1 .0) .0)) $ pass0 ! $
     sets ! (of-opd ! (part ! (v 0 2) 1 refl)) (v 0 5) refl (tt, record { fits = n-fits }) $
-    relends ! (v 0 1) (v 0 7) (v 0 8) refl (are .0 .0 .1 .0) $
-    -- [_11; …; _0; …; the tokens; what the parameters own]
-    move ! (25 ∷ []) $ fsplit ! $ move ! (1 ∷ []) $ fsplit ! $ move ! (27 ∷ []) $ split ! $ move ! (1 ∷ []) $ split ! $
-    -- [κ₁'s token; true; κ₀'s token; what the list owns; what the plain ones own; what the board owns; _11; …]
+    relends ! (v 0 1) (v 0 8) (v 0 9) refl (are .0 .0 .1 .0) $
+    -- [_12; …; _0; …; the tokens; what the parameters own]
+    move ! (27 ∷ []) $ fsplit ! $ move ! (1 ∷ []) $ fsplit ! $ move ! (29 ∷ []) $ split ! $ move ! (1 ∷ []) $ split ! $
+    -- [κ₁'s token; true; κ₀'s token; what the list owns; what the plain ones own; what the board owns; _12; …]
     nothing ! $ arg ! P.the-row (LL.makes P.the-type P′.the-plain 𝓤 H A) p _ (are .1 .1 .1 .0) $ arg-num ! n n-fits $
     arg ! F.the-row (LL.makes F.the-type F′.the-plain 𝓤 H A) f _ (are .1 .1 .0) $ move ! (6 ∷ 0 ∷ []) $ fjoin ! $
     move ! (3 ∷ 2 ∷ []) $ join ! $ join ! $
-    -- [what the call takes; κ₁'s token; what the list owns; what the plain ones own; _11; …]
+    -- [what the call takes; κ₁'s token; what the list owns; what the plain ones own; _12; …]
     cited-call ! (fmOf 𝓤 H (W .laws) 𝓣) core.ended (core.clauses 𝓤 H A mem run) cores (
       (
         (κs .0, tt),
@@ -112,36 +119,41 @@ open-meets 𝓤 H A W mem run 𝓣 cores idles = walk-closes 𝓤 H A W open-fn.
     ) (id⊢ 𝓤 _)
     (‵ (flft (κs .0) (qs .0)) ⊛ ‵ ftrue) refl (LL.val O.the-type O′.the-laws) (LL.tells O.the-type O′.the-laws)
     (λ r zs. FloorLaid bs f n p (zs .0) r) (λ r zs. refl)
-    (and-then ! (var ! (v 4 8) refl) (and-then ! (var ! (v 4 3) refl) (and-then ! (var ! (v 4 5) refl) (and-then ! (var ! (v 4 4) refl) (no-more !)))))
+    (and-then ! (var ! (v 4 9) refl) (and-then ! (var ! (v 4 3) refl) (and-then ! (var ! (v 4 5) refl) (and-then ! (var ! (v 4 4) refl) (no-more !)))))
     (λ o zs o-is e₁.
-    -- [κ₀'s token and true; the board's last state; κ₁'s token; what the list owns; what the plain ones own; _11; …]
+    -- [κ₀'s token and true; the board's last state; κ₁'s token; what the list owns; what the plain ones own; _12; …]
     let fields = LL.owed O.the-type O′.the-laws o _ o-is in
     let told : Outcome = record { refusal = o .refusal; floor = o .floor } in
     let told-is : Is N.the-row told (LL.vals N.the-type N′.the-laws told) =
     LL.owes N.the-type N′.the-laws told (fields .0, (fields .1 .1 .0, tt)) in
     gets ! (v 5 6) refl (LL.lawful O.the-type O′.the-laws 𝓤 H A W .typed o _ o-is .0) $
-    relends ! (v 5 2) (v 5 10) (v 5 11) refl n-fits $
-    move ! (3 ∷ 2 ∷ []) $ given-call ! (fmOf 𝓤 H (W .laws) 𝓣) (plain (λ _. usize) ∷ []) (yes, tt) (idle-all.clauses 𝓤 H A mem run) idles (o .idle, tt)
-    (uint-vals w64 (o .idle), tt) (qed W [] ∵ nothing ! $ arg-num ! (o .idle) (fields .1 .0 .1) $ done !)
-    (λ us. us ≡ idled (o .idle) ys) (a .1 .0) (only (slice-vals (a .1 .0))) (tt, id⊢ 𝓤 _, λ r ws. refl)
-    (and-then ! (var ! (v 4 11) refl) (and-then ! (part ! (v 4 6) 1 refl) (no-more !)))
+    nothing ! $ nothing ! $ join ! $
+    cited-call ! (fmOf 𝓤 H (W .laws) 𝓣) idle-fn.ended (idle-fn.clauses 𝓤 H A mem run) idles ((tt, tt, tt, tt, tt), tt) (id⊢ 𝓤 _) (‵ ftrue) refl val
+    (LL.tells T.the-type T′.the-laws) (λ r _. r ≡ idle) (λ r _. refl) (no-more !) (λ w _ w-is is.
+    gets ! (v 7 7) refl (typed 𝓤 H A W w w-is) $ drop ! $ drop ! $
+    relends ! (v 5 2) (v 5 11) (v 5 12) refl n-fits $
+    move ! (3 ∷ 2 ∷ []) $ given-call ! (fmOf 𝓤 H (W .laws) 𝓣) (plain (λ _. row) ∷ plain (λ _. usize) ∷ []) (yes, (yes, tt)) (put-all.clauses 𝓤 H A mem run) puts
+    (w, (o .idle, tt)) (vals w, (uint-vals w64 (o .idle), tt))
+    (qed W [] ∵ nothing ! $ arg-num ! (o .idle) (fields .1 .0 .1) $ arg-worker ! w w-is $ done !)
+    (λ us. us ≡ firsts (λ k old. w) (o .idle) ys) (a .1 .0) (only (slice-vals (a .1 .0))) (tt, id⊢ 𝓤 _, λ r ws. refl)
+    (and-then ! (var ! (v 4 12) refl) (and-then ! (var ! (v 4 7) refl) (and-then ! (part ! (v 4 6) 1 refl) (no-more !))))
     (λ us same₁ e₂.
-    -- [κ₁'s token; the list's last state; κ₀'s token and true; the board's last state; what the plain ones own; _11; …]
-    gets ! (v 5 9) refl (tt, tt) $
+    -- [κ₁'s token; the list's last state; κ₀'s token and true; the board's last state; what the plain ones own; _12; …]
+    gets ! (v 5 10) refl (tt, tt) $
     sets ! (agg ! (and-then ! (part ! (v 5 6) 0 refl) (and-then ! (part ! (v 5 6) 2 refl) (no-more !)))) (v 5 0) refl
     (LL.lawful N.the-type N′.the-laws 𝓤 H A W .typed told _ told-is .0) $
-    returns ! (look ! (v 5 0) refl) $ keep ! (span 5 (2 * 12) (3 ∷ 2 ∷ 0 ∷ 1 ∷ 4 ∷ [])) $
+    returns ! (look ! (v 5 0) refl) $ keep ! (span 5 (2 * 13) (3 ∷ 2 ∷ 0 ∷ 1 ∷ 4 ∷ [])) $
     gone ! (
       full _,
-      (full _, (full _, (full _, (full _, (full _, (full _, (full _, (full _, (full _, (full _, (full _, tt))))))))))),
+      (full _, (full _, (full _, (full _, (full _, (full _, (full _, (full _, (full _, (full _, (full _, (full _, tt)))))))))))),
     ) $
     fsplit ! $ fsplit ! $ move ! (1 ∷ []) $ feqL ! (λ same₀.
     -- [the board's last state; nothing; κ₀'s token and true; κ₁'s token; the list's last state; what the plain ones own]
     move ! (4 ∷ 5 ∷ []) $ fjoin ! $ move ! (1 ∷ 0 ∷ []) $ fjoin ! $ move ! (2 ∷ []) $ split ! $ move ! (4 ∷ 1 ∷ []) $ join ! $ move ! (1 ∷ 0 ∷ []) $
     join ! $ keep ! (0 ∷ 1 ∷ []) $
     suffices ! _ (ends (LL.val N.the-type N′.the-laws told) told (zs .0, (us, (tt, (tt, tt)))) (same₀, (same₁, (tt, (tt, tt))))) $
-    says ! (open-left bs f ys p (zs .0) o us e₁ e₂) $ frame ! $ frame ! $
-    owned ! N.the-row (Is N.the-row) (LL.makes N.the-type N′.the-plain 𝓤 H A) told _ told-is $ done !))))))))))))))))
+    says ! (open-left bs f ys p (zs .0) o w us e₁ is e₂) $ frame ! $ frame ! $
+    owned ! N.the-row (Is N.the-row) (LL.makes N.the-type N′.the-plain 𝓤 H A) told _ told-is $ done !))))))))))))))))))
 
 pub desk-open-floor-spec : {M : Type 1} → stated.statement M
 unfolding code.routine tablesOf
@@ -151,5 +163,7 @@ desk-open-floor-spec 𝓤 H 𝓜 𝓖 𝓡 =
     (open-meets 𝓤 H (𝓖 .A) (givenOf 𝓤 H 𝓜 𝓖) (𝓜 .mem) (𝓡 .run) (tablesOf 𝓤 H 𝓜 (tables 𝓤 H 𝓜 𝓡 code.env))
     (cited 𝓤 H (tripleOf 𝓤 H (𝓖 .A) core.signature (core.spec 𝓤 H (𝓖 .A) (𝓜 .mem)
     (𝓡 .run))) 𝓜 𝓡 code.env core-def.name core-def.routine code.calls-engine·open-floor (core-thm.met 𝓤 H 𝓜 𝓖 𝓡))
-    (cited 𝓤 H (tripleOf 𝓤 H (𝓖 .A) idle-all.signature (idle-all.spec 𝓤 H (𝓖 .A) (𝓜 .mem)
-    (𝓡 .run))) 𝓜 𝓡 code.env idle-def.name idle-def.routine code.calls-floor·list·make-idle (idle-thm.met 𝓤 H 𝓜 𝓖 𝓡)))
+    (cited 𝓤 H (tripleOf 𝓤 H (𝓖 .A) idle-fn.signature (idle-fn.spec 𝓤 H (𝓖 .A) (𝓜 .mem)
+    (𝓡 .run))) 𝓜 𝓡 code.env idle-def.name idle-def.routine code.calls-turn·record·idle (idle-thm.met 𝓤 H 𝓜 𝓖 𝓡))
+    (cited 𝓤 H (tripleOf 𝓤 H (𝓖 .A) put-all.signature (put-all.spec 𝓤 H (𝓖 .A) (𝓜 .mem)
+    (𝓡 .run))) 𝓜 𝓡 code.env put-def.name put-def.routine code.calls-floor·list·put-all (put-thm.met 𝓤 H 𝓜 𝓖 𝓡)))

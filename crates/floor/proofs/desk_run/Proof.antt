@@ -37,6 +37,7 @@ use Rattle.turn.specs.declared.Worker.{Worker}
 use Rattle.engine.specs.declared.Floor.{Floor}
 use Rattle.floor.specs.declared.run.Running.{Running}
 use Rattle.floor.specs.Told.{runTold}
+use Rattle.floor.specs.Calls.{sayIn}
 use Rattle.floor.specs.Running.{begun, goneOn}
 use Rattle.turn.proofs.Said as O
 use Rattle.turn.proofs.Said.Laws as O′
@@ -49,7 +50,10 @@ use Rattle.floor.proofs.run.Running.Laws as R′
 use Rattle.floor.proofs.Walk.{walk-closes, loc, span, full, bare, stack, gone, var, sets, gets, part, arg, arg-num, cited-call, envOf, tests, relends, Nearer, nearer-wf}
 use Rattle.floor.proofs.Lend.{lends-again, back-again}
 use Rattle.floor.proofs.Records.{row}
-use Rattle.floor.proofs.Turning.{Turns, turn-call, turn-known, floor-vals}
+use Rattle.floor.proofs.Turning.{Turns, turn-call, floor-vals}
+use Rattle.floor.proofs.list.turn_at as leaf-fn
+use Rattle.floor.proofs.list.turn_at.Symbol as leaf-def
+use Rattle.floor.proofs.list.turn_at.Met as leaf-thm
 use Rattle.floor.proofs.Underway.{Underway, begins, goes-on, nearer, over}
 use Rattle.floor.proofs.run.begin as begin
 use Rattle.floor.proofs.run.begin.Symbol as begin-def
@@ -100,7 +104,7 @@ left-of f ts bs ys t = length ts - t .run .at
 
 run-meets : {M : Type 1} (𝓤 : URA M) (H : Heap 𝓤) (A : Atoms 𝓤) → Given 𝓤 H A → (mem : Memory → SProp 𝓤) (run : Routine → Fun 𝓤) (𝓣 : Tables 𝓤 H)
     → Triple 𝓤 (𝓣 .C begin-def.name) (tripleOf 𝓤 H A begin.signature (begin.spec 𝓤 H A mem run))
-    → Triple 𝓤 (𝓣 .C whose-def.name) (tripleOf 𝓤 H A whose.signature (whose.spec 𝓤 H A mem run)) → Turns 𝓤 H A mem run (𝓣 .C)
+    → Triple 𝓤 (𝓣 .C whose-def.name) (tripleOf 𝓤 H A whose.signature (whose.spec 𝓤 H A mem run)) → Turns 𝓤 H A (𝓣 .C) leaf-def.name sayIn
     → Triple 𝓤 (𝓣 .C go-on-def.name) (tripleOf 𝓤 H A go-on.signature (go-on.spec 𝓤 H A mem run))
     → Triple 𝓤 (𝓣 .C told-def.name) (tripleOf 𝓤 H A told.signature (told.spec 𝓤 H A mem run))
     → Meets 𝓤 H A run-fn.signature (WpFn 𝓤 H (𝓣 .C) (𝓣 .Λ) code.function) (run-fn.spec 𝓤 H A mem run)
@@ -181,7 +185,7 @@ run-meets 𝓤 H A W mem run 𝓣 starts whoses turnings goings tolds = walk-clo
     move ! (42 ∷ 41 ∷ []) $ lends-again ! tt row (named 1) (named 1) (a .1 .0) (t .records) (λ ν₁ δ₁.
     -- [ν₁'s token; the list; what is lent of it; ν₀'s token; the board; what is lent of it; κ₂'s token; true; nothing; the turns; _16; …]
     move ! (4 ∷ 1 ∷ 3 ∷ 0 ∷ []) $
-    turn-call ! mem run fm turnings (record { ptr = a .0 .ptr; name = δ₀; now = t .board }) (only (slice-vals (a .0)))
+    turn-call ! fm sayIn turnings (record { ptr = a .0 .ptr; name = δ₀; now = t .board }) (only (slice-vals (a .0)))
     (record { ptr = a .1 .0 .ptr; name = δ₁; now = t .records }) (only (slice-vals (a .1 .0))) f f-is i (i-is .1)
     (and-then ! (var ! (v 7 14) refl) (and-then ! (var ! (v 7 16) refl) (and-then ! (var ! (v 7 3) refl) (and-then ! (var ! (v 7 9) refl) (no-more !)))))
     (λ s s-is zs us same₀ same₁ e₂.
@@ -249,7 +253,8 @@ desk-run-spec 𝓤 H 𝓜 𝓖 𝓡 =
     (𝓡 .run))) 𝓜 𝓡 code.env begin-def.name begin-def.routine code.calls-floor·run·begin (begin-thm.met 𝓤 H 𝓜 𝓖 𝓡))
     (cited 𝓤 H (tripleOf 𝓤 H (𝓖 .A) whose.signature (whose.spec 𝓤 H (𝓖 .A) (𝓜 .mem)
     (𝓡 .run))) 𝓜 𝓡 code.env whose-def.name whose-def.routine code.calls-floor·run·whose (whose-thm.met 𝓤 H 𝓜 𝓖 𝓡))
-    (turn-known 𝓤 H 𝓜 𝓖 𝓡 code.env code.calls-floor·list·turn-at)
+    (cited 𝓤 H (tripleOf 𝓤 H (𝓖 .A) leaf-fn.signature (leaf-fn.spec 𝓤 H (𝓖 .A) (𝓜 .mem)
+    (𝓡 .run))) 𝓜 𝓡 code.env leaf-def.name leaf-def.routine code.calls-floor·list·turn-at (leaf-thm.met 𝓤 H 𝓜 𝓖 𝓡))
     (cited 𝓤 H (tripleOf 𝓤 H (𝓖 .A) go-on.signature (go-on.spec 𝓤 H (𝓖 .A) (𝓜 .mem)
     (𝓡 .run))) 𝓜 𝓡 code.env go-on-def.name go-on-def.routine code.calls-floor·run·go-on (go-on-thm.met 𝓤 H 𝓜 𝓖 𝓡))
     (cited 𝓤 H (tripleOf 𝓤 H (𝓖 .A) told.signature (told.spec 𝓤 H (𝓖 .A) (𝓜 .mem)

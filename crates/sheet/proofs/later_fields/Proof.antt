@@ -1,11 +1,13 @@
 -- The turns and the fields that are left, from here, come to what all of them come to from the start. Assumes nothing.
 use borrow.Author.Needs.{needs}
-use Prim.Native.Nat.{_+_, _-_, _≤_, _<_}
+use borrow.Author.Tests.{eq-eqb}
+use Prim.Native.Nat.{ℕ, _+_, _-_, _≤_, _<_}
 use mathlib.Core.Path.{_≡_, refl, sym, ap, _∙_}
-use mathlib.Core.List.{[]}
+use mathlib.Core.List.{[], map}
 use mathlib.Core.Logic.{⊎-elim}
 use native.Mathlib.Omega.{arith}
-use lib.ListN.{length, length-set, getD}
+use lib.ListN.{length, length-set, length-map, getD}
+use Rattle.turn.specs.Asleep.{slept}
 use Rattle.turn.specs.Turn.{after}
 use Rattle.engine.specs.Calls.{blank, recordIn}
 use Rattle.engine.specs.Room.{Few}
@@ -20,10 +22,20 @@ use Rattle.sheet.specs.Promises.{Does, putBack}
 use Rattle.sheet.proofs.Fielding.{whole-next, whole-turns, refused-place}
 use Rattle.sheet.proofs.Seats.{asked-known}
 use Rattle.sheet.proofs.OneTurn.{busy-some, no-record}
+use Rattle.engine.proofs.Firsts.{firsts-none, firsts-next}
+use Rattle.sheet.proofs.Sleeping.{firstsSlept, firsts-all, idle-turn}
 use Rattle.sheet.proofs.FieldByField.{Standing, standing-starts, turn-refused, turn-next, sheet-over, malformed, no-floor}
 use Rattle.sheet.proofs.FieldByField.{call-refused, call-next, turns-next}
 use Rattle.sheet.proofs.later_fields.Statement.{statement}
 use Rattle.sheet.proofs.later_fields.Tie as tie
+
+-- the records before this one have slept through the turn
+abbrev Inv-loop2 : tie.InvT-loop2
+Inv-loop2 sheet board out first records₀ floor written at turn end worker i took k₀ records k =
+    (records ≡ firstsSlept k records₀) × (k ≤ floor .workers)
+
+abbrev μ-loop2 : tie.MeasureT-loop2
+μ-loop2 sheet board out first records₀ floor written at turn end worker i took k₀ records k = floor .workers - k
 
 abbrev Inv-loop : tie.InvT-loop
 Inv-loop sheet board₀ out₀ first records₀ floor₀ totals₀ written₀ at₀ turn₀ end₀ board out records floor totals written at turn end =
@@ -37,7 +49,7 @@ abbrev μ-loop : tie.MeasureT-loop
 μ-loop sheet board₀ out₀ first records₀ floor₀ totals₀ written₀ at₀ turn₀ end₀ board out records floor totals written at turn end =
     length sheet - turn
 
-loop-holds : tie.Need-loop-holds Inv-loop μ-loop
+loop-holds : tie.Need-loop-holds Inv-loop2 μ-loop2 Inv-loop μ-loop
 loop-holds c =
     let s = c .before .before .before .before .before in
     let a = s .args in
@@ -46,7 +58,7 @@ loop-holds c =
 
 -- a last line has room, and speaks of a place and of counts that are small
 last-fits :
-    (l : tie.At-loop Inv-loop μ-loop)
+    (l : tie.At-loop Inv-loop2 μ-loop2 Inv-loop μ-loop)
     → (l .loop .end ≤ 16384) × (l .loop .written + 26 ≤ length (l .loop .out)) × Few 16384 (l .loop .totals)
 last-fits l =
     let s = l .before .before .before .before .before .before in
@@ -61,7 +73,7 @@ last-fits l =
 
 -- its record is the worker's, or the blank
 found :
-    (j : tie.Joined2 Inv-loop μ-loop)
+    (j : tie.Joined2 Inv-loop2 μ-loop2 Inv-loop μ-loop)
     → let l = j .before .before .before .before in
     let a = l .before .before .before .before .before .before .args in
     recordIn (l .loop .records) (getD (a .sheet .now) (l .loop .turn) 0) ≡ j .if2 .w
@@ -69,7 +81,7 @@ found j =
     let l = j .before .before .before .before in
     ⊎-elim (λ h. sym (h .2)) (λ h. no-record (l .loop .records) _ _ (l .loop .inv .0 .all) (h .0 .left) (h .1 ∙ j .before .blank .ensures .whole)) (j .if2 .came)
 
-turn-requires : tie.Need-turn-requires Inv-loop μ-loop
+turn-requires : tie.Need-turn-requires Inv-loop2 μ-loop2 Inv-loop μ-loop
 turn-requires c κs =
     let j = c .before .before in
     let m = j .before .before .before in
@@ -86,7 +98,7 @@ turn-requires c κs =
 
 -- it is the turn at the desk
 did :
-    (t : tie.After-turn Inv-loop μ-loop)
+    (t : tie.After-turn Inv-loop2 μ-loop2 Inv-loop μ-loop)
     → let l = t .before .before .before .before .before .before .before in
     let i = getD (l .before .before .before .before .before .before .args .sheet .now) (l .loop .turn) 0 in
     let d = deskOf (l .loop .floor) (l .loop .records) (l .loop .totals) in
@@ -103,14 +115,14 @@ did t =
 
 -- board and buffer keep their lengths
 kept-lengths :
-    (t : tie.After-turn Inv-loop μ-loop)
+    (t : tie.After-turn Inv-loop2 μ-loop2 Inv-loop μ-loop)
     → let a = t .before .before .before .before .before .before .before .before .before .before .before .before .before .args in
     (length (t .turn .last .0) ≡ length (a .board .now)) × (length (t .turn .last .1 .1 .1 .1 .1 .0) ≡ length (a .out .now))
 kept-lengths t =
     let g = t .before .before .before .before .before .before .before .loop .inv in
     (t .turn .kept .0 ∙ g .2, t .turn .kept .1 .1 .1 .1 .1 .0 ∙ g .1)
 
-refused-requires : tie.Need-refused-requires Inv-loop μ-loop
+refused-requires : tie.Need-refused-requires Inv-loop2 μ-loop2 Inv-loop μ-loop
 refused-requires c κs =
     let t = c .before .before .before .before .before .before .before in
     let l = t .before .before .before .before .before .before .before in
@@ -121,7 +133,7 @@ refused-requires c κs =
       omega (arith, did t .1, g .room, g .inside, long, s .pre .short, s .pre .room),
     )
 
-returns : tie.Need-returns Inv-loop μ-loop
+returns : tie.Need-returns Inv-loop2 μ-loop2 Inv-loop μ-loop
 returns c =
     let r = c .before .before in
     let h = r .before .before in
@@ -130,53 +142,86 @@ returns c =
     turn-refused _ _ _ (m .before .loop .inv .0) (m .if1 .taken) (did t .0) (h .if3 .taken) (r .refused .ensures)
 
 -- the turn, where it was not refused
-abbrev tested : tie.Else3 Inv-loop μ-loop → tie.After-turn Inv-loop μ-loop
+abbrev tested : tie.Else3 Inv-loop2 μ-loop2 Inv-loop μ-loop → tie.After-turn Inv-loop2 μ-loop2 Inv-loop μ-loop
 tested e = e .before .before .before .before .before .before
 
--- its worker has a record
+-- its worker is one of the floor's, each of whom has a record
 known :
-    (e : tie.Else3 Inv-loop μ-loop)
+    (e : tie.Else3 Inv-loop2 μ-loop2 Inv-loop μ-loop)
     → let l = tested e .before .before .before .before .before .before .before in
-    getD (l .before .before .before .before .before .before .args .sheet .now) (l .loop .turn) 0 < 64
+    (getD (l .before .before .before .before .before .before .args .sheet .now) (l .loop .turn) 0 < l .loop .floor .workers)
+    × (l .loop .floor .workers ≤ 64)
 known e = tested e .turn .ensures .known (e .if3 .left)
 
 -- another turn was left
 more :
-    (e : tie.Else3 Inv-loop μ-loop)
+    (e : tie.Else3 Inv-loop2 μ-loop2 Inv-loop μ-loop)
     → let l = tested e .before .before .before .before .before .before .before in
     (l .loop .turn < l .loop .end) × (l .loop .end ≤ length (l .before .before .before .before .before .before .args .sheet .now)) × (l .loop .end ≤ 16384)
 more e =
     let m = tested e .before .before .before .before .before .before in
     (m .if1 .taken, m .before .loop .inv .0 .inside, last-fits (m .before) .0)
 
-loop-again : tie.Need-loop-again Inv-loop μ-loop
+-- ---- the others sleep through it
+
+-- the next one has a record
+one-of : (c : tie.Then4 Inv-loop2 μ-loop2 Inv-loop μ-loop) → c .before .before .loop2 .k < 64
+one-of c = omega (arith, c .if4 .taken, known (c .before .before .before) .1)
+
+loop2-again : tie.Need-loop2-again Inv-loop2 μ-loop2 Inv-loop μ-loop
+loop2-again c =
+    let t = c .before .before in
+    let l2 = t .before .before in
+    (rw (c .slept .ensures, l2 .loop2 .inv .0) (firsts-next (λ k w. slept w) (l2 .loop2 .k) _), omega (arith, t .if4 .taken))
+
+-- all of them have slept
+all-slept :
+    (o : tie.Else4 Inv-loop2 μ-loop2 Inv-loop μ-loop)
+    → let l2 = o .before .before in
+    l2 .loop2 .records ≡ map slept (tested (l2 .before) .before .before .before .before .before .before .before .loop .records)
+all-slept o =
+    let l2 = o .before .before in
+    let l = tested (l2 .before) .before .before .before .before .before .before .before in
+    let over : l2 .loop2 .k ≡ l .loop .floor .workers = omega (arith, l2 .loop2 .inv .1, o .if4 .left) in
+    l2 .loop2 .inv .0
+    ∙ ap (λ (n : ℕ). firstsSlept n (l .loop .records)) over
+    ∙ firsts-all (l .loop .floor .workers) (l .loop .records) (l .loop .inv .0 .past)
+
+-- where they have
+abbrev at-end : tie.After-left Inv-loop2 μ-loop2 Inv-loop μ-loop → tie.Else3 Inv-loop2 μ-loop2 Inv-loop μ-loop
+at-end c = c .before .before .before .before
+
+loop-again : tie.Need-loop-again Inv-loop2 μ-loop2 Inv-loop μ-loop
 loop-again c =
-    let e = c .before .before in
+    let o = c .before .before in
+    let e = o .before .before .before in
     let t = tested e in
     let m = t .before .before .before .before .before .before in
     let g = m .before .loop .inv .0 in
-    let one = did t in
+    let one = rw (eq-eqb _ 0 (e .if3 .left)) at (did t) in
     let same = kept-lengths t in
-    (turn-next _ _ _ g (m .if1 .taken) (one .0) (e .if3 .left) (simp length-set (g .all)) (one .1), same .1, same .0)
+    let past = idle-turn _ (m .before .loop .records) _ (t .turn .result .worker) (known e .0) (g .past) in
+    let next = turn-next _ _ _ g (m .if1 .taken) (one .0) (e .if3 .left) (simp (length-set, length-map) (g .all)) past (one .1) in
+    (rw (all-slept o) next, same .1, same .0)
 
 -- ---- no turn is left
 
-totals-requires : tie.Need-totals-requires Inv-loop μ-loop
+totals-requires : tie.Need-totals-requires Inv-loop2 μ-loop2 Inv-loop μ-loop
 totals-requires c κs = let fits = last-fits (c .before .before .before) in (fits .2, fits .1)
 
-returns-2 : tie.Need-returns-2 Inv-loop μ-loop
+returns-2 : tie.Need-returns-2 Inv-loop2 μ-loop2 Inv-loop μ-loop
 returns-2 c =
     let r = c .before .before in
     let h = r .before .before in
     let e = h .before in
-    sheet-over _ _ _ (e .before .loop .inv .0) (e .if1 .left) (h .if4 .taken)
+    sheet-over _ _ _ (e .before .loop .inv .0) (e .if1 .left) (h .if5 .taken)
     (record { lines = r .totals2 .ensures; floor = refl; records = refl; stop = refl })
 
 -- ---- a field that is refused
 
 -- the place that it comes with
 refused-at :
-    (p : tie.After-place Inv-loop μ-loop)
+    (p : tie.After-place Inv-loop2 μ-loop2 Inv-loop μ-loop)
     → let l = p .before .before .before .before .before .before .before in
     readField (l .before .before .before .before .before .before .args .sheet .now) (l .loop .end) ≡ Refused (p .place .result)
 refused-at p =
@@ -184,56 +229,56 @@ refused-at p =
     let told = e .enum-told .given .1 in
     sym (e .before .before .read .ensures) ∙ told ∙ ap Refused (sym (p .place .ensures ∙ ap placeIn told))
 
-refused-requires-2 : tie.Need-refused-requires-2 Inv-loop μ-loop
+refused-requires-2 : tie.Need-refused-requires-2 Inv-loop2 μ-loop2 Inv-loop μ-loop
 refused-requires-2 c κs =
     let l = c .before .before .before .before .before .before .before in
     let fits = last-fits l in
     let same = refused-place _ _ _ (refused-at c) in
     (omega (arith, same, fits .0), omega (arith, fits .1))
 
-returns-3 : tie.Need-returns-3 Inv-loop μ-loop
+returns-3 : tie.Need-returns-3 Inv-loop2 μ-loop2 Inv-loop μ-loop
 returns-3 c =
     let r = c .before .before in
     let p = r .before in
     let h = p .before .before .before .before .before in
-    malformed _ _ _ (h .before .before .loop .inv .0) (h .before .if1 .left) (h .if4 .left) _ (refused-at p) (r .refused2 .ensures)
+    malformed _ _ _ (h .before .before .loop .inv .0) (h .before .if1 .left) (h .if5 .left) _ (refused-at p) (r .refused2 .ensures)
 
 -- ---- a field that is read whole
 
 -- it was read here
 read-at :
-    (k : tie.After-read2 Inv-loop μ-loop) (f : Field)
+    (k : tie.After-read2 Inv-loop2 μ-loop2 Inv-loop μ-loop) (f : Field)
     → k .read2 .given .0 .0 ≡ f
     → let l = k .before .before .before .before .before in
     readField (l .before .before .before .before .before .before .args .sheet .now) (l .loop .end) ≡ Whole f (k .read2 .given .0 .1 .0)
 read-at k f is = sym (k .before .before .read .ensures) ∙ k .read2 .given .1 ∙ ap (λ (x : Field). Whole x (k .read2 .given .0 .1 .0)) is
 
 -- it is no floor
-never : tie.After-enum-told2 Inv-loop μ-loop → ⊥
+never : tie.After-enum-told2 Inv-loop2 μ-loop2 Inv-loop μ-loop → ⊥
 never e =
     let k = e .before .before .before in
     let h = k .before .before .before in
-    no-floor _ _ _ (h .before .before .loop .inv .0) (h .before .if1 .left) (h .if4 .left) _ _ (read-at k _ (e .enum-told2 .given .1))
+    no-floor _ _ _ (h .before .before .loop .inv .0) (h .before .if1 .left) (h .if5 .left) _ _ (read-at k _ (e .enum-told2 .given .1))
 
 -- ---- a call
 
 -- its record is the worker's, or the blank
 called :
-    (j : tie.Joined5 Inv-loop μ-loop)
+    (j : tie.Joined6 Inv-loop2 μ-loop2 Inv-loop μ-loop)
     → let f = j .before .before .before .before in
     let l = f .before .before .before .before .before .before .before .before in
-    recordIn (l .loop .records) (f .field .given .0 .0 .worker) ≡ j .if5 .w
+    recordIn (l .loop .records) (f .field .given .0 .0 .worker) ≡ j .if6 .w
 called j =
     let l = j .before .before .before .before .before .before .before .before .before .before .before .before in
-    ⊎-elim (λ h. sym (h .2)) (λ h. no-record (l .loop .records) _ _ (l .loop .inv .0 .all) (h .0 .left) (h .1 ∙ j .before .blank2 .ensures .whole)) (j .if5 .came)
+    ⊎-elim (λ h. sym (h .2)) (λ h. no-record (l .loop .records) _ _ (l .loop .inv .0 .all) (h .0 .left) (h .1 ∙ j .before .blank2 .ensures .whole)) (j .if6 .came)
 
 -- the loop, where a call is started
-abbrev before-start : tie.After-start Inv-loop μ-loop → tie.At-loop Inv-loop μ-loop
+abbrev before-start : tie.After-start Inv-loop2 μ-loop2 Inv-loop μ-loop → tie.At-loop Inv-loop2 μ-loop2 Inv-loop μ-loop
 before-start t = t .before .before .before .before .before .before .before .before .before .before .before .before .before .before
 
 -- what was started is what it asks for
 was-started :
-    (t : tie.After-start Inv-loop μ-loop)
+    (t : tie.After-start Inv-loop2 μ-loop2 Inv-loop μ-loop)
     → let f = t .before .before .before .before .before .before in
     let l = f .before .before .before .before .before .before .before .before in
     let d = deskOf (l .loop .floor) (l .loop .records) (l .loop .totals) in
@@ -241,12 +286,12 @@ was-started :
     t .start .result ≡ asked (l .loop .board) (seatOf d (c .worker)) (recordOf d (c .worker)) c
 was-started t = rw (called (t .before .before)) (t .start .ensures)
 
-refused-requires-4 : tie.Need-refused-requires-4 Inv-loop μ-loop
+refused-requires-4 : tie.Need-refused-requires-4 Inv-loop2 μ-loop2 Inv-loop μ-loop
 refused-requires-4 c κs =
     let fits = last-fits (before-start (c .before .before .before)) in
     (fits .0, omega (arith, fits .1))
 
-returns-5 : tie.Need-returns-5 Inv-loop μ-loop
+returns-5 : tie.Need-returns-5 Inv-loop2 μ-loop2 Inv-loop μ-loop
 returns-5 c =
     let r = c .before .before in
     let h = r .before .before in
@@ -254,16 +299,18 @@ returns-5 c =
     let f = t .before .before .before .before .before .before in
     let k = f .before .before .before in
     let e = k .before .before .before in
-    call-refused _ _ _ (e .before .before .loop .inv .0) (e .before .if1 .left) (e .if4 .left) _ _ (read-at k _ (f .field .given .1)) _
-    (was-started t) (h .if6 .taken) (r .refused4 .ensures)
+    call-refused _ _ _ (e .before .before .loop .inv .0) (e .before .if1 .left) (e .if5 .left) _ _ (read-at k _ (f .field .given .1)) _
+    (was-started t) (h .if7 .taken) (r .refused4 .ensures)
 
-started-known : (c : tie.Else6 Inv-loop μ-loop) → c .before .before .before .before .before .before .before .before .field .given .0 .0 .worker < 64
+started-known :
+    (c : tie.Else7 Inv-loop2 μ-loop2 Inv-loop μ-loop)
+    → c .before .before .before .before .before .before .before .before .field .given .0 .0 .worker < 64
 started-known c =
     let t = c .before .before in
-    let known = asked-known _ _ _ _ (sym (ap (λ x. x .refusal) (was-started t)) ∙ c .if6 .left) in
+    let known = asked-known _ _ _ _ (sym (ap (λ x. x .refusal) (was-started t)) ∙ c .if7 .left) in
     omega (arith, known .0, known .1)
 
-loop-again-2 : tie.Need-loop-again-2 Inv-loop μ-loop
+loop-again-2 : tie.Need-loop-again-2 Inv-loop2 μ-loop2 Inv-loop μ-loop
 loop-again-2 c =
     let h = c .before .before in
     let t = h .before .before in
@@ -271,10 +318,10 @@ loop-again-2 c =
     let k = f .before .before .before in
     let e = k .before .before .before in
     let g = e .before .before .loop .inv in
-    let on = call-next _ _ _ (g .0) (e .before .if1 .left) (e .if4 .left) _ _ (read-at k _ (f .field .given .1)) _ (was-started t) (h .if6 .left) in
+    let on = call-next _ _ _ (g .0) (e .before .if1 .left) (e .if5 .left) _ _ (read-at k _ (f .field .given .1)) _ (was-started t) (h .if7 .left) in
     (on, g .1, g .2)
 
-loop-less-2 : tie.Need-loop-less-2 Inv-loop μ-loop
+loop-less-2 : tie.Need-loop-less-2 Inv-loop2 μ-loop2 Inv-loop μ-loop
 loop-less-2 c =
     let f = c .before .before .before .before .before .before .before .before .before .before in
     let k = f .before .before .before in
@@ -284,15 +331,15 @@ loop-less-2 c =
 
 -- ---- turns
 
-loop-again-3 : tie.Need-loop-again-3 Inv-loop μ-loop
+loop-again-3 : tie.Need-loop-again-3 Inv-loop2 μ-loop2 Inv-loop μ-loop
 loop-again-3 c =
     let f = c .before in
     let k = f .before .before .before in
     let e = k .before .before .before in
     let g = e .before .before .loop .inv in
-    (turns-next _ _ _ (g .0) (e .before .if1 .left) (e .if4 .left) _ _ (read-at k _ (f .field2 .given .1)), g .1, g .2)
+    (turns-next _ _ _ (g .0) (e .before .if1 .left) (e .if5 .left) _ _ (read-at k _ (f .field2 .given .1)), g .1, g .2)
 
-loop-less-3 : tie.Need-loop-less-3 Inv-loop μ-loop
+loop-less-3 : tie.Need-loop-less-3 Inv-loop2 μ-loop2 Inv-loop μ-loop
 loop-less-3 c =
     let f = c .before in
     let k = f .before .before .before in
@@ -306,7 +353,7 @@ pub later-fields-spec : {M : Type 1} → statement M
 later-fields-spec =
     tie.close
     (tie.spec
-    Inv-loop μ-loop
+    Inv-loop2 μ-loop2 Inv-loop μ-loop
     (λ c κs. search needs) (λ c κs. search needs) loop-holds
     (λ c. let m = c .before in omega (arith, m .if1 .taken, m .before .loop .inv .0 .inside))
     (λ c. omega (arith, c .shared-slice-known2 .given (c .before .before .loop .turn)))
@@ -318,8 +365,11 @@ later-fields-spec =
     let r = c .before .before in
     r .refused .kept .0 ∙ kept-lengths (r .before .before .before .before .before .before .before .before) .1)
     returns
-    (λ c. omega (arith, known (c .before))) (λ c. omega (arith, known (c .before)))
-    (λ c. omega (arith, more (c .before .before))) (λ c. omega (arith, more (c .before .before))) loop-again
+    (λ c. (sym (firsts-none (λ k w. slept w) _), omega arith)) (λ c. omega (arith, one-of c)) (λ c. omega (arith, one-of c)) (λ c κs. search needs)
+    (λ c. omega (arith, one-of (c .before .before))) (λ c. omega (arith, one-of (c .before .before)))
+    (λ c. omega (arith, one-of (c .before .before))) (λ c. omega (arith, c .before .before .if4 .taken)) loop2-again
+    (λ c. omega (arith, known (at-end c) .0, known (at-end c) .1)) (λ c. omega (arith, known (at-end c) .0, known (at-end c) .1))
+    (λ c. omega (arith, more (at-end (c .before)))) (λ c. omega (arith, more (at-end (c .before)))) loop-again
     totals-requires
     (λ c. c .before .before .before .before .before .before .loop .inv .2)
     (λ c. let r = c .before .before in r .totals2 .kept .0 ∙ r .before .before .before .before .loop .inv .1)

@@ -14,6 +14,7 @@ pub fn make(bodies: &mut Bodies) {
         for call in [start, TURN, RUN, ORDERS, RETIRE] {
             with_record(bodies, call, record);
         }
+        beside(bodies, record);
     }
     for spoil in BUCKETS {
         with_bucket(bodies, ORDERS, 1, spoil);
@@ -37,6 +38,13 @@ fn with_record(bodies: &mut Bodies, call: u8, record: Record) {
         _ => case.worker,
     };
     case.list.records[worker as usize] = record;
+    bodies.push(case);
+}
+
+/// §20.2: a turn of somebody else, which leaves this record as it is.
+fn beside(bodies: &mut Bodies, record: Record) {
+    let mut case = bodies.random.sound_sized(TURN, 2, 1);
+    case.list.records[1 - case.worker as usize] = record;
     bodies.push(case);
 }
 
@@ -68,7 +76,7 @@ fn broken_kinds(random: &mut Random, records: &mut Vec<Record>) {
 }
 
 fn broken_idle(records: &mut Vec<Record>) {
-    let fills: [fn(&mut Record); 11] = [
+    let fills: [fn(&mut Record); 16] = [
         |record| record.place = 1,
         |record| record.key = 7,
         |record| record.ticket = 1,
@@ -80,6 +88,11 @@ fn broken_idle(records: &mut Vec<Record>) {
         |record| record.held = 2,
         |record| record.held = 4,
         |record| record.held = 255,
+        |record| record.asleep = 1,
+        |record| record.asleep = 256,
+        |record| record.asleep = 65_536,
+        |record| record.asleep = u32::MAX - 1,
+        |record| record.asleep = u32::MAX,
     ];
     for fill in fills {
         let mut record = Record::idle();

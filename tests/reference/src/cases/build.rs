@@ -93,6 +93,17 @@ impl Random {
             word: if kind == LOOK { 0 } else { self.word() },
             held: self.pick(helds(kind, place)),
             seen: self.value(),
+            asleep: self.asleep(),
+        }
+    }
+
+    /// §20.1: few turns, or a number at the end of its range, or any.
+    pub fn asleep(&mut self) -> u32 {
+        match self.below(8) {
+            0 => u32::MAX,
+            1 => u32::MAX - 1,
+            2 => self.any() as u32,
+            _ => self.below(4) as u32,
         }
     }
 

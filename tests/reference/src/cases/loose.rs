@@ -155,7 +155,7 @@ fn spoil_word(random: &mut Random, board: &mut [u64]) {
 
 fn spoil_record(random: &mut Random, record: &mut Record) {
     let edge = random.pick(&EDGES);
-    match random.below(8) {
+    match random.below(9) {
         0 => record.kind = random.pick(&[0, 1, 2, 3, 4, 255]),
         1 => record.place = random.below(16) as u8,
         2 => record.key = edge,
@@ -167,7 +167,8 @@ fn spoil_record(random: &mut Random, record: &mut Record) {
             record.word = word[0];
         }
         6 => record.held = random.below(5) as u8,
-        _ => record.seen = edge,
+        7 => record.seen = edge,
+        _ => record.asleep = edge as u32,
     }
 }
 
@@ -220,7 +221,9 @@ fn likely(random: &mut Random) -> Vec<u8> {
         body.push(random.below(bound) as u8);
     }
     body.extend([254, random.slot(), random.slot(), random.slot(), 0, 0, 0, 0]);
-    body.extend([random.below(4) as u8, random.below(3) as u8]);
+    for bound in [4, 3, 3] {
+        body.push(random.below(bound) as u8);
+    }
     body.extend([0, 0, 1 + random.below(20) as u8]);
     body
 }

@@ -43,7 +43,7 @@ fn only_broken(records: &[Record]) -> Option<&Record> {
 }
 
 /// Everything in a record that the rules don't allow, each with its name.
-fn causes(record: &Record) -> Vec<String> {
+pub fn causes(record: &Record) -> Vec<String> {
     match record.kind {
         IDLE => causes_in_idle(record),
         LOOK | INSERT | REMOVE => causes_in_busy(record),
@@ -67,6 +67,9 @@ fn causes_in_idle(record: &Record) -> Vec<String> {
         .collect();
     if record.held != NONE {
         causes.push(format!("idle with held {}", record.held));
+    }
+    if record.asleep != 0 {
+        causes.push(format!("idle with asleep {}", record.asleep));
     }
     causes
 }

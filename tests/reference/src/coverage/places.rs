@@ -50,6 +50,7 @@ fn see_sound(turn: &Turn, met: &mut Vec<String>) {
     }
     met.push(format!("turn: sound {kind} slot {}", before.slot));
     met.push(format!("turn: sound {kind} ticket {}", before.ticket));
+    met.push(format!("turn: sound {kind} asleep {}", before.asleep));
     met.push(format!(
         "turn: sound {kind} version {} in its word",
         word.version

@@ -4,7 +4,7 @@
 
 use reference::desk::{Desk, Manner, Refusal};
 use reference::memory::Bucket;
-use reference::record::{Record, INSERT, LOOK, NONE};
+use reference::record::{Record, IDLE, INSERT, LOOK, NONE};
 use reference::report::{Action, Report};
 use reference::word::*;
 
@@ -59,9 +59,22 @@ impl Room {
         match (self.engine, record) {
             (Engine::Table(flaw), Some(record)) if !record.is_idle() => {
                 let number = (record.key % self.desk.floor.buckets) as usize;
-                Ok(turn_by_table(record, self.desk.board.bucket(number), flaw))
+                let report = turn_by_table(record, self.desk.board.bucket(number), flaw);
+                self.wake(worker as usize);
+                Ok(report)
             }
             _ => self.desk.turn(worker),
+        }
+    }
+
+    /// §20.2, on an opened board, where nobody is broken and nobody sleeps so long that the number is held.
+    fn wake(&mut self, worker: usize) {
+        for (at, record) in self.desk.list.records.iter_mut().enumerate() {
+            match record.kind {
+                _ if at == worker => record.asleep = 0,
+                IDLE => (),
+                _ => record.asleep += 1,
+            }
         }
     }
 

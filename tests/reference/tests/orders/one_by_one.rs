@@ -1,4 +1,5 @@
-//! Each order walked on its own, in two ways that share nothing with the table of states but the turn.
+//! Each order walked on its own, in two ways that share nothing with the table of states but the turn. Records keep all their fields here,
+//! with how long each worker is asleep (§20.1).
 
 use reference::desk::{Desk, List, Manner};
 use reference::record::Record;

@@ -198,11 +198,11 @@ impl State {
     }
 
     /// So many bits that no two states of a walk have the same; but whether it is one worker or another who is somewhere makes no
-    /// difference.
+    /// difference, nor how long anybody is asleep, which nothing asks for (§20.2).
     fn fingerprint(&self) -> u128 {
         let workers = self.records.iter().zip(&self.watch.workers);
         let mut workers: Vec<_> = workers
-            .map(|(record, since)| (fields(record), since))
+            .map(|(record, since)| (fields(&record.awake()), since))
             .collect();
         workers.sort();
         let kept = (self.watch.may_be_lost, &self.watch.retired);

@@ -44,7 +44,7 @@ told-requires c κs =
     let n = counted (c .before) in
     let was = took _ _ _ _ (s .args .before) _ _ (was-tried t) (e .if1 .left) in
     let turns = ap (λ (t : Totals). t .turns) (n .0) in
-    (omega (arith, turns, n .1 .turns), s .pre .room (was .known) (was .was-busy))
+    (omega (arith, turns, n .1 .turns), s .pre .room (omega (arith, was .known .0, was .known .1)) (was .was-busy))
 
 returns-2 : tie.Need-returns-2
 returns-2 c =

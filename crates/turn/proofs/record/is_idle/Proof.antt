@@ -15,4 +15,5 @@ is-idle-spec =
     (λ c. search choices depth 12)
     (λ c. search choices depth 12)
     (λ c. search choices depth 12)
+    (λ c. search choices depth 12)
     (λ c. search choices depth 12))

@@ -5,12 +5,14 @@ use native.Mathlib.Omega.{arith}
 use borrow.Author.Needs.{needs}
 use borrow.Fn.Kinds.{In}
 use borrow.Fn.PlainCycle.{Measures, is, falls, and}
+use Rattle.turn.specs.Asleep.{slept}
 use Rattle.turn.proofs.record.is_idle.Reads as is-idle-reads
+use Rattle.turn.proofs.sleep.slept.Reads as slept-reads
 use Rattle.turn.proofs.try_turn.Reads as try-turn-reads
 use Rattle.walks.specs.declared.Walks.{Walks}
 use Rattle.walks.specs.Walk.{begunBy, walks}
 use Rattle.walks.proofs.Bounds.{lost-once, room-left, begun-fit, sum-fit}
-use Rattle.walks.proofs.Walking.{walk-ends, walk-cut, walk-on, begun-busy}
+use Rattle.walks.proofs.Walking.{walk-ends, walk-cut, walk-on, idle-slept, begun-busy}
 use Rattle.walks.proofs.walk.are_idle.Reads as are-idle-reads
 use Rattle.walks.proofs.walk.lost_by.Reads as lost-by-reads
 use Rattle.walks.proofs.walk.none.Reads as none-reads
@@ -46,6 +48,8 @@ calls t = (
   are-idle-reads.Learnt,
   one-reads.Asked,
   one-reads.Learnt,
+  slept-reads.Asked,
+  slept-reads.Learnt,
   begun-by-below t,
   begun-by.Post,
   sum-reads.Asked,
@@ -73,7 +77,9 @@ module _ (t : ℕ) where
       (c : Counted) (r : Walks)
       → let tried = c .before .before .before .before .before in
       let a = tried .before .before .before .before .args in
-      r ≡ walks (a .depth) (tried .try-turn .last .0) (tried .try-turn .result .worker) (a .next) (a .last) (a .lost + c .lost-by .result)
+      r
+      ≡ walks (a .depth) (tried .try-turn .last .0) (tried .try-turn .result .worker) (slept (a .next)) (slept (a .last))
+      (a .lost + c .lost-by .result)
       → r ≡ begunBy (walks (a .depth)) (a .words) (a .own) (a .next) (a .last) (a .lost)
   turned c r =
       let tried = c .before .before .before .before .before in
@@ -98,10 +104,10 @@ module _ (t : ℕ) where
   sum-requires c κs =
       let two = c .before in
       let one = two .before in
-      let l = one .before .before .before .before in
+      let l = one .before .before .before .before .before .before in
       let tried = l .before .before .before .before .before in
       let a = tried .before .before .before .before .args in
-      let fit = begun-fit (a .depth - 1) (tried .try-turn .last .0) (a .lost + l .lost-by .result) (room (one .before) .1) in
+      let fit = begun-fit (a .depth - 1) (tried .try-turn .last .0) (a .lost + l .lost-by .result) (room (one .before .before .before) .1) in
       (fit _ _ _ _ (one .begun-by .ensures), fit _ _ _ _ (two .begun-by2 .ensures))
 
   sum-requires-2 : lts.Need-sum-requires-2 (calls t) (begun-by-at t) begun-by.Post
@@ -109,12 +115,12 @@ module _ (t : ℕ) where
       let three = c .before in
       let two = three .before in
       let one = two .before in
-      let l = one .before .before .before .before in
+      let l = one .before .before .before .before .before .before in
       let tried = l .before .before .before .before .before in
       let a = tried .before .before .before .before .args in
       let depth = a .depth - 1 in
       let lost = a .lost + l .lost-by .result in
-      let left = room (one .before) .1 in (
+      let left = room (one .before .before .before) .1 in (
         sum-fit depth (tried .try-turn .last .0) lost left _ _ _ _ _ _ _ _ _
             (one .begun-by .ensures) (two .begun-by2 .ensures) (c .sum .ensures),
         begun-fit depth (tried .try-turn .last .0) lost left _ _ _ _ (three .begun-by3 .ensures),
@@ -125,15 +131,18 @@ module _ (t : ℕ) where
       let three = c .before .before in
       let two = three .before in
       let one = two .before in
-      let g = one .before in
+      let last = one .before in
+      let next = last .before in
+      let g = next .before in
       let i = g .before .before in
       let l = i .before in
       let tried = l .before .before .before .before .before in
       let a = tried .before .before .before .before .args in
       turned l _
+      (rw (← next .slept .ensures, ← last .slept2 .ensures)
       (walk-on (tried .try-turn .last .0) _ _ _ (a .lost + l .lost-by .result) (a .depth) _ _ _ _ _
-      (sym (i .are-idle .ensures) ∙ g .before .if2 .left) (g .if3 .left)
-      (one .begun-by .ensures) (two .begun-by2 .ensures) (three .begun-by3 .ensures) (c .before .sum .ensures) (c .sum2 .ensures))
+      (rw (next .slept .ensures, last .slept2 .ensures) (idle-slept _ _ _ ∙ (sym (i .are-idle .ensures) ∙ g .before .if2 .left))) (g .if3 .left)
+      (one .begun-by .ensures) (two .begun-by2 .ensures) (three .begun-by3 .ensures) (c .before .sum .ensures) (c .sum2 .ensures)))
 
 pub +begun-by-spec : {M : Type 1} → statement M
 +begun-by-spec =
@@ -151,19 +160,22 @@ pub +begun-by-spec : {M : Type 1} → statement M
     (λ c κs. search needs)
     (λ c.
     let i = c .before .before in
-    turned t (i .before) _ (c .one .ensures ∙ sym (walk-ends _ _ _ _ _ _ (sym (i .are-idle .ensures) ∙ c .before .if2 .taken))))
+    turned t (i .before) _
+    (c .one .ensures ∙ sym (walk-ends _ _ _ _ _ _ (idle-slept _ _ _ ∙ (sym (i .are-idle .ensures) ∙ c .before .if2 .taken)))))
     (λ c κs. search needs)
     (λ c.
     let z = c .before in
     let i = z .before .before in
     turned t (i .before) _
-    (c .one2 .ensures ∙ sym (walk-cut _ _ _ _ _ _ (sym (i .are-idle .ensures) ∙ z .before .if2 .left) (z .if3 .taken))))
-    (λ c. search needs)
-    (λ c κs. room t c)
-    (λ c. search needs)
-    (λ c κs. room t (c .before))
+    (c .one2 .ensures ∙ sym (walk-cut _ _ _ _ _ _ (idle-slept _ _ _ ∙ (sym (i .are-idle .ensures) ∙ z .before .if2 .left)) (z .if3 .taken))))
+    (λ c κs. search needs)
+    (λ c κs. search needs)
     (λ c. search needs)
     (λ c κs. room t (c .before .before))
+    (λ c. search needs)
+    (λ c κs. room t (c .before .before .before))
+    (λ c. search needs)
+    (λ c κs. room t (c .before .before .before .before))
     (sum-requires t)
     (sum-requires-2 t)
     (returns-4 t))

@@ -2,8 +2,8 @@ use borrow.Author.Needs.{needs}
 use Prim.Native.Nat.{_+_}
 use borrow.Author.Tests.{le-leb, lt-leb}
 use native.Mathlib.Omega.{arith}
-use Rattle.engine.proofs.tally.more.Statement.{statement}
-use Rattle.engine.proofs.tally.more.Tie as tie
+use Rattle.turn.proofs.sleep.more.Statement.{statement}
+use Rattle.turn.proofs.sleep.more.Tie as tie
 
 returns : tie.Need-returns
 returns c = let a = c .before .args in rw (le-leb (a .count + a .some) 4294967295 (omega (arith, c .if1 .taken)))
