@@ -2,9 +2,10 @@
 
      bench compare [SEED]                      both on the same random histories; exit status 1 at the first difference
      bench times                               a table of times
-     bench operations                          the operations whose instructions are counted, with N, W and how many repetitions
+     bench operations                          the operations whose instructions are counted, with N, W, how many repetitions, and the
+                                               side that has a row of its own
      bench units OPERATION N W                 how many units one repetition has, where instructions are counted
-     bench count SIDE OPERATION N W REPEATS    just that, so often; SIDE is desk, plain or nobody
+     bench count SIDE OPERATION N W REPEATS    just that, so often; SIDE is desk, plain, tuned, read or nobody
 
    What is told of an operation is the caller's loop with the call less the loop without it, so passing the arguments is in it. */
 #include "histories.h"
@@ -57,25 +58,27 @@ static void tell_row(const operation *o, size_t buckets, size_t workers, const c
 static void time_row(const operation *o, size_t buckets, size_t workers) {
     prepare(o, &the_stage, buckets, workers, false);
     size_t repeats = enough_repeats(o);
-    bool small = o->sizes == SMALL_CLASSES;
-    double desk = 1e30, plain = 1e30, fastest = 1e30, loop = 1e30, began = nanoseconds();
+    double desk = 1e30, plain = 1e30, third = 1e30, loop = 1e30, began = nanoseconds();
     for (size_t i = 0; i < ROUNDS && (i < FEWEST_ROUNDS || nanoseconds() - began < LONG_ROW); i++) {
         keep_least(&desk, time_of(o, &proved, repeats));
         keep_least(&plain, time_of(o, &by_hand, repeats));
-        if (small) keep_least(&fastest, time_of(o, &tuned, repeats));
+        if (o->third) keep_least(&third, time_of(o, o->third, repeats));
         keep_least(&loop, time_of(o, &nobody, repeats));
     }
     double units = (double)(repeats * o->units(&the_stage));
     tell_row(o, buckets, workers, o->unit, (desk - loop) / units, (plain - loop) / units);
-    if (!small) return;
-    tell_row(o, buckets, workers, "M/s", 1e3 * units / (desk - loop), 1e3 * units / (plain - loop));
-    tell_row(o, buckets, workers, "tuned", (desk - loop) / units, (fastest - loop) / units);
+    if (o->sizes == SMALL_CLASSES) tell_row(o, buckets, workers, "M/s", 1e3 * units / (desk - loop), 1e3 * units / (plain - loop));
+    if (o->third) tell_row(o, buckets, workers, o->third->name, (desk - loop) / units, (third - loop) / units);
 }
 
 /* tells something for each N and W of an operation; every N with every W only where that is wanted too */
 static void for_sizes(const operation *o, bool every, void (*tell)(const operation *, size_t buckets, size_t workers)) {
     if (o->sizes == SMALL_CLASSES) {
         for (size_t workers = 2; workers <= MOST_IN_CLASS; workers++) tell(o, 1, workers);
+        return;
+    }
+    if (o->sizes == LARGEST_SIZE) {
+        tell(o, MOST_BUCKETS, MOST_WORKERS);
         return;
     }
     for (size_t n = 0; n < SIZES; n++)
@@ -91,7 +94,7 @@ static void tell_times(void) {
 /* ---- counting */
 
 static void tell_operation(const operation *o, size_t buckets, size_t workers) {
-    printf("%s %s %lu %lu %lu\n", o->name, o->unit, buckets, workers, o->repeats);
+    printf("%s %s %lu %lu %lu %s\n", o->name, o->unit, buckets, workers, o->repeats, o->third ? o->third->name : "-");
 }
 
 /* a run comes to the same instructions in whatever order its workers stand, so the shuffled one is not counted */
@@ -101,7 +104,7 @@ static void tell_operations(void) {
 }
 
 static const side *find_side(const char *name) {
-    static const side *const sides[] = {&proved, &by_hand, &tuned, &nobody};
+    static const side *const sides[] = {&proved, &by_hand, &tuned, &reading, &nobody};
     for (size_t i = 0; i < sizeof sides / sizeof sides[0]; i++)
         if (strcmp(sides[i]->name, name) == 0) return sides[i];
     return 0;

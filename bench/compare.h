@@ -1,10 +1,11 @@
-/* The same call on both sides: the answer, the floor, every word and every record must come out the same. */
+/* The same call on both sides: the answer, the floor, every word, every record and the index must come out the same; on an opened board the
+   index, and what is told from it, must also be what the board says. */
 #ifndef COMPARE_H
 #define COMPARE_H
 
 #include "side.h"
 
-typedef enum { OPEN, START_LOOK, START_INSERT, START_REMOVE, TURN, RUN, SHOW, COUNT, ORDERS, RETIRE, CALLS } which;
+typedef enum { OPEN, START_LOOK, START_INSERT, START_REMOVE, TURN, RUN, SHOW, COUNT, ORDERS, RETIRE, TOTAL, NEXT, CALLS } which;
 
 /* each call takes of these what it needs */
 typedef struct {
@@ -16,11 +17,14 @@ typedef struct {
     const uint8_t *turns;
     size_t count;
     size_t depth;
+    size_t from;
 } call;
 
-/* a hall of the proved library's and one of the engine's by hand, which begin the same */
+/* a hall of the proved library's and one of the engine's by hand, which begin the same; and whether they have been opened, and nothing but
+   calls was done to them since */
 typedef struct {
     hall desk, plain;
+    bool opened;
 } pair;
 
 /* begins a history: from here on the second hall is the first's twin */

@@ -1,6 +1,8 @@
-/* Random histories, the same ones for the same seed: those of an opened board, which go deep; those of any board and any records, with
-   every kind of fault; every record, as far as its small fields go; the longest runs; and two short calls to every depth. */
+/* Random histories, the same ones for the same seed: those of an opened board, which go deep; those of any board, any records and any
+   index, with every kind of fault; every record, as far as its small fields go; the longest runs; two short calls to every depth; every
+   index, as far as it concerns one bucket, and every length of it; and every question of the display. */
 #include "histories.h"
+#include "chances.h"
 #include "compare.h"
 
 enum { OPENED_HISTORIES = 1500, OPENED_CALLS = 90, WILD_HISTORIES = 6000, WILD_CALLS = 8, ROOM_TURNS = MOST_TURNS + 5 };
@@ -8,84 +10,7 @@ enum { OPENED_HISTORIES = 1500, OPENED_CALLS = 90, WILD_HISTORIES = 6000, WILD_C
 static pair halls;
 static uint8_t turns[ROOM_TURNS];
 
-/* ---- numbers for a call */
-
-static uint64_t one_of(chance *c, const uint64_t *numbers, size_t many) {
-    return numbers[below(c, many)];
-}
-#define ONE_OF(chance, ...) \
-    one_of(chance, (const uint64_t[]){__VA_ARGS__}, sizeof((const uint64_t[]){__VA_ARGS__}) / sizeof(uint64_t))
-
-static uint32_t some_version(chance *c) {
-    return (uint32_t)ONE_OF(c, 0, 1, 0xfffffffe, 0xffffffff, any(c));
-}
-
-/* few lots in few buckets, so that workers meet; lot 0 and lots as large as there are among them */
-static uint64_t some_lot(chance *c, size_t buckets) {
-    if (now_and_then(c, 4)) return ONE_OF(c, UINT64_MAX, any(c));
-    size_t n = buckets == 0 || buckets > MOST_BUCKETS ? 1 : buckets;
-    return n * below(c, 5) + (now_and_then(c, 80) ? 0 : n - 1);
-}
-
-/* numbers that would be a worker's if they were cut to 32 bits or to 8 are among them */
-static size_t wrong_worker(chance *c, size_t workers) {
-    return ONE_OF(c, workers, workers + 1, 0x100, 0x100000000, UINT64_MAX);
-}
-
-static size_t some_worker(chance *c, size_t workers) {
-    return now_and_then(c, 3) || workers == 0 ? wrong_worker(c, workers) : below(c, workers);
-}
-
-/* the first from a random one on that is idle, or that is not; any where there is none */
-static size_t worker_who(chance *c, const hall *h, bool idle) {
-    size_t from = below(c, h->floor.workers);
-    for (size_t i = 0; i < h->floor.workers; i++) {
-        size_t worker = (from + i) % h->floor.workers;
-        if ((h->records[worker].kind == IDLE) == idle) return worker;
-    }
-    return from;
-}
-
-static uint32_t next_ticket(chance *c, uint32_t last) {
-    if (now_and_then(c, 4)) return last - (uint32_t)below(c, 2);
-    if (now_and_then(c, 1)) return 0xffffffff;
-    return last + 1 + (uint32_t)below(c, 3);
-}
-
-/* Of all orders no more than some four thousand turns are walked, whoever is busy; where more are busy than a small class has, any depth is
-   refused. Those that would be a depth if they were cut to 32 bits or to 8 are among the wrong ones. */
-static size_t some_depth(chance *c, const hall *h) {
-    static const size_t deepest[MOST_IN_CLASS + 1] = {MOST_DEPTH, MOST_DEPTH, 11, 7};
-    if (now_and_then(c, 8)) return ONE_OF(c, 0, MOST_DEPTH + 1, 0x101, 0x100000001, UINT64_MAX);
-    size_t busy = busy_workers(h);
-    return 1 + below(c, busy > MOST_IN_CLASS ? MOST_DEPTH : deepest[busy]);
-}
-
-/* the first from a random one on that holds a slot; any where there is none */
-static size_t worker_who_holds(chance *c, const hall *h) {
-    size_t from = below(c, h->floor.workers);
-    for (size_t i = 0; i < h->floor.workers; i++) {
-        size_t worker = (from + i) % h->floor.workers;
-        if (h->records[worker].held != HOLDS_NONE) return worker;
-    }
-    return from;
-}
-
 /* ---- histories of an opened board */
-
-static desk_plan some_plan(chance *c) {
-    desk_plan plan = {.workers = ONE_OF(c, 1, 2, 2, 3, 3, 4, 8), .buckets = ONE_OF(c, 1, 1, 1, 2, 3, 5), .version = some_version(c)};
-    if (now_and_then(c, 3)) plan.workers = MOST_WORKERS;
-    if (now_and_then(c, 3)) plan.buckets = ONE_OF(c, 16, 255, MOST_BUCKETS);
-    return plan;
-}
-
-static void fill_with_anything(chance *c, hall *h) {
-    for (size_t i = 0; i < ROOM_WORDS; i++) h->board[i] = any(c);
-    for (size_t i = 0; i < ROOM_RECORDS; i++)
-        h->records[i] = (desk_worker){
-            .kind = 9, .place = 99, .key = any(c), .ticket = 9, .slot = 9, .word = any(c), .held = 9, .seen = i, .asleep = 9};
-}
 
 static void start_some(chance *c) {
     const hall *h = &halls.desk;
@@ -121,124 +46,48 @@ static void retire_some(chance *c) {
 
 static void call_some(chance *c) {
     uint64_t pick = below(c, 100);
-    if (pick < 30) start_some(c);
-    else if (pick < 65) turn_some(c);
-    else if (pick < 87) run_some(c);
-    else if (pick < 90) retire_some(c);
-    else if (pick < 93) make(&halls, &(call){.which = SHOW, .lot = some_lot(c, halls.desk.floor.buckets)});
-    else if (pick < 96) make(&halls, &(call){.which = COUNT});
+    if (pick < 29) start_some(c);
+    else if (pick < 63) turn_some(c);
+    else if (pick < 84) run_some(c);
+    else if (pick < 87) retire_some(c);
+    else if (pick < 89) make(&halls, &(call){.which = SHOW, .lot = some_lot(c, halls.desk.floor.buckets)});
+    else if (pick < 91) make(&halls, &(call){.which = COUNT});
+    else if (pick < 93) make(&halls, &(call){.which = TOTAL});
+    else if (pick < 96) make(&halls, &(call){.which = NEXT, .from = some_from(c, halls.desk.floor.buckets)});
     else make(&halls, &(call){.which = ORDERS, .depth = some_depth(c, &halls.desk)});
 }
 
+/* from here on the index is one that no call left */
+static void mislead_display(chance *c) {
+    spoil_index(c, &halls.desk);
+    for (size_t i = 0; i < INDEX_WORDS; i++) halls.plain.index[i] = halls.desk.index[i];
+    halls.opened = false;
+}
+
+/* in one of four the index is spoilt on the way */
 static void opened_history(chance *c, uint64_t seed, uint64_t history) {
     call open = {.which = OPEN, .plan = some_plan(c)};
     hall *h = &halls.desk;
     fill_with_anything(c, h);
     h->words = BUCKET_WORDS * open.plan.buckets;
     h->listed = open.plan.workers;
+    h->entries = INDEX_WORDS;
     h->floor = (desk_floor){.workers = any(c), .buckets = any(c), .last = (uint32_t)any(c)};
     begin(&halls, seed, history);
     make(&halls, &open);
-    for (size_t i = 0; i < OPENED_CALLS; i++) call_some(c);
-}
-
-/* ---- histories of any board and any records */
-
-static uint64_t some_word(chance *c) {
-    uint64_t word = some_version(c);
-    for (unsigned slot = 0; slot < SLOTS; slot++) word |= below(c, 3) << (32 + 8 * slot);
-    return word;
-}
-
-static uint64_t broken_word(chance *c) {
-    return some_word(c) | ONE_OF(c, 3, 4, 0x80, 0xff) << (32 + 8 * below(c, 4));
-}
-
-static void any_bucket(chance *c, uint64_t *bucket, size_t buckets) {
-    bucket[0] = now_and_then(c, 4) ? broken_word(c) : some_word(c);
-    for (size_t slot = 0; slot < SLOTS; slot++) {
-        bucket[1 + slot] = some_lot(c, buckets);
-        bucket[4 + slot] = below(c, 4);
-    }
-    bucket[7] = now_and_then(c, 3) ? ONE_OF(c, 1, 0x8000000000000000, any(c)) : 0;
-}
-
-static uint8_t held_at(chance *c, unsigned place) {
-    if (place == 6) return HOLDS_NONE;
-    return (uint8_t)below(c, place < 6 ? HOLDS_NONE + 1 : SLOTS);
-}
-
-/* often so near to the highest number that a run comes to it */
-static uint32_t some_sleep(chance *c) {
-    return (uint32_t)ONE_OF(c, 0, 1, 0xffffffff, 0xfffffffe, 0xffffffff - below(c, 12), any(c));
-}
-
-/* a record that is not broken; often its word and its seen are what the bucket has, so that swaps win and looks find */
-static desk_worker any_record(chance *c, const hall *h) {
-    desk_worker w = {.kind = (uint8_t)ONE_OF(c, LOOK, INSERT, INSERT, REMOVE), .key = some_lot(c, h->floor.buckets), .held = HOLDS_NONE};
-    const uint64_t *bucket = h->board + BUCKET_WORDS * (w.key % h->floor.buckets);
-    w.slot = (uint8_t)below(c, SLOTS);
-    w.asleep = some_sleep(c);
-    w.seen = now_and_then(c, 60) ? bucket[4 + w.slot] : below(c, 4);
-    if (w.kind != LOOK) w.word = now_and_then(c, 60) ? bucket[0] : some_word(c);
-    if (w.kind == LOOK) w.place = (uint8_t)(2 + below(c, 4));
-    if (w.kind == REMOVE) w.place = (uint8_t)ONE_OF(c, 1, 11, 12, 13);
-    if (w.kind == INSERT) {
-        w.place = (uint8_t)(1 + below(c, 10));
-        w.ticket = (uint32_t)ONE_OF(c, 1, 2, 0xffffffff, any(c) | 1);
-        w.held = held_at(c, w.place);
-    }
-    return w;
-}
-
-/* one field as no call leaves it, or by chance as one does */
-static void spoil(chance *c, desk_worker *w) {
-    switch (below(c, 10)) {
-    case 0: w->kind = (uint8_t)ONE_OF(c, 0, 1, 2, 3, 4, 255); break;
-    case 1: w->place = (uint8_t)ONE_OF(c, below(c, 16), below(c, 16), 255); break;
-    case 2: w->ticket = (uint32_t)below(c, 2); break;
-    case 3: w->slot = (uint8_t)ONE_OF(c, 3, 255); break;
-    case 4: w->word = ONE_OF(c, broken_word(c), some_word(c), 1); break;
-    case 5: w->held = (uint8_t)ONE_OF(c, below(c, 5), 255); break;
-    case 6: w->seen = below(c, 3); break;
-    case 7: w->key = below(c, 2); break;
-    case 8: w->asleep = some_sleep(c); break;
-    default: *w = (desk_worker){0}; break;
+    size_t spoilt = below(c, 4 * OPENED_CALLS);
+    for (size_t i = 0; i < OPENED_CALLS; i++) {
+        if (i == spoilt) mislead_display(c);
+        call_some(c);
     }
 }
 
-static void any_hall(chance *c, hall *h) {
-    h->floor = (desk_floor){.workers = 1 + below(c, 5), .buckets = ONE_OF(c, 1, 1, 2, 3), .last = (uint32_t)ONE_OF(c, 0, 7, 0xffffffff)};
-    h->words = BUCKET_WORDS * h->floor.buckets;
-    h->listed = h->floor.workers;
-    for (size_t i = 0; i < h->floor.buckets; i++) any_bucket(c, h->board + BUCKET_WORDS * i, h->floor.buckets);
-    for (size_t i = 0; i < h->listed; i++) {
-        h->records[i] = now_and_then(c, 20) ? (desk_worker){.held = HOLDS_NONE} : any_record(c, h);
-        if (now_and_then(c, 15)) spoil(c, &h->records[i]);
-    }
-}
-
-/* one size that is wrong, or by chance two that agree; eight times some of these N go over 64 bits and come to a right size again */
-static void spoil_sizes(chance *c, hall *h) {
-    switch (below(c, 6)) {
-    case 0: h->words += ONE_OF(c, 1, 8); break;
-    case 1: h->words -= ONE_OF(c, 1, 8); break;
-    case 2: h->listed += ONE_OF(c, 1, (uint64_t)-1); break;
-    case 3: h->floor.workers = ONE_OF(c, 0, h->listed + 1, h->listed - 1, 65, 0x100000000 + h->listed, UINT64_MAX); break;
-    case 4: h->floor.buckets = ONE_OF(c, 0, h->words / 8 + 1, 257, 0x2000000000000000 + h->words / 8, UINT64_MAX); break;
-    default:
-        h->floor.workers = ONE_OF(c, 0, 1, 65);
-        h->floor.buckets = ONE_OF(c, 0, 1, 257);
-        h->listed = h->floor.workers;
-        h->words = BUCKET_WORDS * h->floor.buckets;
-        break;
-    }
-}
+/* ---- histories of any board, any records and any index */
 
 static call any_call(chance *c, const hall *h) {
     call made = {.turns = turns};
     made.which = (which)ONE_OF(c, START_LOOK, START_INSERT, START_REMOVE, TURN, TURN, TURN, RUN, RUN, SHOW, COUNT, ORDERS, ORDERS, RETIRE,
-        RETIRE);
+        RETIRE, TOTAL, NEXT, NEXT);
     if (now_and_then(c, 4)) made.which = OPEN;
     made.plan = (desk_plan){.workers = h->floor.workers, .buckets = h->floor.buckets, .version = some_version(c)};
     if (now_and_then(c, 50)) made.plan = some_plan(c);
@@ -247,6 +96,7 @@ static call any_call(chance *c, const hall *h) {
     made.ticket = (uint32_t)ONE_OF(c, 0, h->floor.last, h->floor.last + 1, any(c));
     made.count = below(c, 12);
     made.depth = some_depth(c, h);
+    made.from = some_from(c, h->floor.buckets);
     for (size_t i = 0; i < made.count; i++) turns[i] = (uint8_t)some_worker(c, h->floor.workers);
     if (now_and_then(c, 3)) made.count = ONE_OF(c, MOST_TURNS, MOST_TURNS + 1, ROOM_TURNS);
     return made;
@@ -274,7 +124,10 @@ static void put_record(desk_worker w) {
 static void try_record(chance *c, desk_worker w) {
     hall *h = &halls.desk;
     any_bucket(c, h->board, 1);
+    true_index(h);
+    if (now_and_then(c, 20)) spoil_index(c, h);
     for (size_t i = 0; i < h->words; i++) halls.plain.board[i] = h->board[i];
+    for (size_t i = 0; i < INDEX_WORDS; i++) halls.plain.index[i] = h->index[i];
     put_record(w);
     make(&halls, &(call){.which = ORDERS, .depth = some_depth(c, h)});
     make(&halls, &(call){.which = TURN, .worker = 0});
@@ -313,6 +166,7 @@ static void longest_runs(chance *c, uint64_t seed, uint64_t history) {
     for (size_t i = 0; i < h->words; i++) h->board[i] = i % BUCKET_WORDS == 0 ? 0x0001010100000000 : 0;
     for (size_t i = 0; i < h->listed; i++)
         h->records[i] = (desk_worker){.kind = INSERT, .place = 1, .key = 7 + i, .ticket = 1 + (uint32_t)i, .held = HOLDS_NONE};
+    true_index(h);
     begin(&halls, seed, history);
     for (size_t i = 0; i < ROOM_TURNS; i++) turns[i] = (uint8_t)below(c, h->listed);
     for (size_t count = MOST_TURNS - 1; count <= MOST_TURNS + 2; count++)
@@ -340,14 +194,122 @@ static void every_depth(chance *c, uint64_t seed, uint64_t history) {
     }
 }
 
+/* ---- every index: all marks of a bucket with its bit set and not, and the total at both ends of what that leaves it, and past them; for
+   boards that end within a word of the index, at its end and just past it */
+
+enum { BOARDS = 11, TOTALS = 9, MARKINGS = 27, CREW = 4 };
+
+static const size_t boards[BOARDS] = {1, 2, 63, 64, 65, 128, 129, 192, 193, 255, MOST_BUCKETS};
+
+static void put_hall(const hall *h) {
+    halls.desk = halls.plain = *h;
+    halls.opened = false;
+}
+
+/* Of one bucket three know the word: the first is to commit a slot or to give it back, the second to close one, and the third holds one and
+   is to be retired. The last looks in the bucket after that, where nothing is valid. */
+static void set_hall(chance *c, hall *h, size_t buckets, size_t bucket, unsigned marks) {
+    h->floor = (desk_floor){.workers = CREW, .buckets = buckets, .last = 9};
+    h->words = BUCKET_WORDS * buckets;
+    h->listed = CREW;
+    for (size_t i = 0; i < h->words; i++) h->board[i] = 0;
+    uint64_t word = some_version(c);
+    for (unsigned slot = 0; slot < SLOTS; slot++, marks /= 3) word |= (uint64_t)(marks % 3) << (32 + 8 * slot);
+    h->board[BUCKET_WORDS * bucket] = word;
+    for (size_t i = 0; i < CREW - 1; i++)
+        h->records[i] = (desk_worker){.kind = INSERT, .place = (uint8_t)ONE_OF(c, 9, 10), .key = bucket, .ticket = 9, .word = word,
+            .slot = (uint8_t)below(c, SLOTS), .held = (uint8_t)below(c, SLOTS)};
+    h->records[1].kind = REMOVE, h->records[1].place = 13, h->records[1].ticket = 0, h->records[1].held = HOLDS_NONE;
+    h->records[3] = (desk_worker){.kind = LOOK, .place = 2, .key = bucket + 1, .held = HOLDS_NONE};
+    true_index(h);
+}
+
+static void try_index(const hall *h, size_t bucket) {
+    turns[0] = 3, turns[1] = 0, turns[2] = 1;
+    put_hall(h);
+    make(&halls, &(call){.which = RUN, .turns = turns, .count = 3});
+    for (size_t worker = 0; worker < 2; worker++) {
+        put_hall(h);
+        make(&halls, &(call){.which = TURN, .worker = worker});
+    }
+    for (size_t worker = 1; worker < 3; worker++) {
+        put_hall(h);
+        make(&halls, &(call){.which = RETIRE, .worker = worker});
+    }
+    make(&halls, &(call){.which = TOTAL});
+    make(&halls, &(call){.which = NEXT, .from = bucket});
+}
+
+static void every_index(chance *c, uint64_t seed, uint64_t history) {
+    static hall h;
+    any_hall(c, &h);
+    begin(&halls, seed, history);
+    for (size_t board = 0; board < BOARDS; board++)
+        for (unsigned marks = 0; marks < MARKINGS; marks++) {
+            size_t buckets = boards[board], bucket = ONE_OF(c, 0, buckets - 1, below(c, buckets));
+            set_hall(c, &h, buckets, bucket, marks);
+            uint64_t valid = h.index[0], most = SLOTS * buckets - (SLOTS - valid);
+            const uint64_t totals[TOTALS] = {0, valid - 1, valid, valid + 1, most - 1, most, most + 1, SLOTS * buckets + 1, UINT64_MAX};
+            for (size_t i = 0; i < 2 * TOTALS; i++) {
+                h.index[0] = totals[i / 2];
+                h.index[1 + bucket / IN_WORD] ^= (uint64_t)1 << bucket % IN_WORD;
+                try_index(&h, bucket);
+            }
+        }
+}
+
+/* ---- every length of the index, and some far too great, for every call: those that do not take it are as with the right one */
+
+static void every_length(chance *c, uint64_t seed, uint64_t history) {
+    static const size_t lengths[] = {0, 1, 2, 3, 4, INDEX_WORDS, INDEX_WORDS + 1, ROOM_INDEX, 0x105, 0x100000005, UINT64_MAX};
+    static hall h;
+    any_hall(c, &h);
+    begin(&halls, seed, history);
+    for (size_t board = 0; board < BOARDS; board++)
+        for (size_t i = 0; i < sizeof lengths / sizeof lengths[0]; i++)
+            for (which w = OPEN; w < CALLS; w++) {
+                set_hall(c, &h, boards[board], 0, 1);
+                h.entries = lengths[i];
+                put_hall(&h);
+                call made = {.which = w, .worker = 2, .lot = 5, .ticket = 10, .turns = turns, .count = 1, .depth = 2};
+                made.plan = (desk_plan){.workers = CREW, .buckets = boards[board]};
+                turns[0] = 3;
+                make(&halls, &made);
+            }
+}
+
+/* ---- every bit, alone or with another, on the same boards: the questions from on both sides of it, and from both ends of the board */
+
+static void every_question(chance *c, uint64_t seed, uint64_t history) {
+    static hall h;
+    any_hall(c, &h);
+    begin(&halls, seed, history);
+    for (size_t board = 0; board < BOARDS; board++)
+        for (size_t bit = 0; bit < MOST_BUCKETS; bit++) {
+            size_t buckets = boards[board], other = now_and_then(c, 50) ? bit : below(c, MOST_BUCKETS);
+            set_hall(c, &h, buckets, 0, 0);
+            h.index[0] = any(c);
+            h.index[1 + bit / IN_WORD] |= (uint64_t)1 << bit % IN_WORD;
+            h.index[1 + other / IN_WORD] |= (uint64_t)1 << other % IN_WORD;
+            put_hall(&h);
+            const size_t from[] = {0, bit - 1, bit, bit + 1, buckets - 1, buckets};
+            for (size_t i = 0; i < sizeof from / sizeof from[0]; i++) make(&halls, &(call){.which = NEXT, .from = from[i]});
+            make(&halls, &(call){.which = TOTAL});
+        }
+}
+
+/* ---- all of them */
+
+enum { DIRECTED = 6 };
+
 bool compare_histories(uint64_t seed) {
-    for (uint64_t history = 0; history < OPENED_HISTORIES + WILD_HISTORIES + 3; history++) {
+    static void (*const directed[DIRECTED])(chance *, uint64_t seed, uint64_t history) = {every_record, longest_runs, every_depth,
+        every_index, every_length, every_question};
+    for (uint64_t history = 0; history < OPENED_HISTORIES + WILD_HISTORIES + DIRECTED; history++) {
         chance c = {.state = seed * 0x100000000 + history};
         if (history < OPENED_HISTORIES) opened_history(&c, seed, history);
         else if (history < OPENED_HISTORIES + WILD_HISTORIES) wild_history(&c, seed, history);
-        else if (history == OPENED_HISTORIES + WILD_HISTORIES) every_record(&c, seed, history);
-        else if (history == OPENED_HISTORIES + WILD_HISTORIES + 1) longest_runs(&c, seed, history);
-        else every_depth(&c, seed, history);
+        else directed[history - OPENED_HISTORIES - WILD_HISTORIES](&c, seed, history);
     }
     return met_everything();
 }

@@ -1,9 +1,16 @@
 #include "operations.h"
+#include "reading.h"
 #include <string.h>
 
 /* ---- halls */
 
 static const desk_worker idle_record = {.held = HOLDS_NONE};
+
+/* the index that turns would have kept */
+static void tell_display(hall *h) {
+    h->entries = INDEX_WORDS;
+    read_index(h->board, h->floor.buckets, h->index);
+}
 
 /* every bucket has so many valid lots, as after an opening at version 0 and their inserts */
 static void fill_board(hall *h, size_t buckets, size_t lots) {
@@ -20,6 +27,7 @@ static void fill_board(hall *h, size_t buckets, size_t lots) {
         }
     }
     h->floor.last = (uint32_t)(lots * buckets);
+    tell_display(h);
 }
 
 static void send_idle(hall *h, size_t workers) {
@@ -103,7 +111,7 @@ static void play_to_the_end(stage *g, scene *s) {
         busy = false;
         for (size_t i = 0; i < h->listed && s->count < LONG_RUN; i++) {
             if (h->records[i].kind == IDLE) continue;
-            by_hand.turn(h->board, h->words, h->records, h->listed, h->floor, i);
+            by_hand.turn(h->board, h->words, h->records, h->listed, h->index, h->entries, h->floor, i);
             s->turns[s->count++] = (uint8_t)i;
             busy = true;
         }
@@ -139,6 +147,20 @@ static void inserts_and_remove(stage *g, size_t buckets, size_t workers) {
     start(&g->scenes[0].first, workers - 1, REMOVE, 7);
 }
 
+/* nothing is occupied */
+static void empty_scene(stage *g, size_t buckets, size_t workers) {
+    idle_scene(g, buckets, workers);
+    fill_board(&g->scenes[0].first, buckets, 0);
+}
+
+/* the last bucket is, with one lot */
+static void last_scene(stage *g, size_t buckets, size_t workers) {
+    empty_scene(g, buckets, workers);
+    hall *h = &g->scenes[0].first;
+    h->board[BUCKET_WORDS * (buckets - 1)] = (uint64_t)DESK_MARK_VALID << 32;
+    tell_display(h);
+}
+
 void reset(stage *g) {
     memcpy(&g->now, &g->scenes[0].first, sizeof g->now);
 }
@@ -155,11 +177,12 @@ static void repeat_run(const side *s, stage *g, size_t repeats) {
     hall *h = &g->now;
     const scene *c = &g->scenes[0];
     for (; repeats > 0; repeats--)
-        if (s->run) s->run(h->board, h->words, h->records, h->listed, h->floor, c->turns, c->count);
+        if (s->run) s->run(h->board, h->words, h->records, h->listed, h->index, h->entries, h->floor, c->turns, c->count);
 }
 
-/* only the buckets of these calls can have changed */
+/* only the buckets of these calls can have changed, and the index */
 static void put_back(hall *now, const hall *first) {
+    for (size_t i = 0; i < INDEX_WORDS; i++) now->index[i] = first->index[i];
     for (size_t i = 0; i < first->listed; i++) {
         size_t from = BUCKET_WORDS * (first->records[i].key % first->floor.buckets);
         for (size_t word = from; word < from + BUCKET_WORDS; word++) now->board[word] = first->board[word];
@@ -172,7 +195,7 @@ static void repeat_mixed(const side *s, stage *g, size_t repeats) {
     for (; repeats > 0; repeats--)
         for (const scene *c = g->scenes; c < g->scenes + SCENES; c++) {
             put_back(h, &c->first);
-            if (s->run) s->run(h->board, h->words, h->records, h->listed, h->floor, c->turns, c->count);
+            if (s->run) s->run(h->board, h->words, h->records, h->listed, h->index, h->entries, h->floor, c->turns, c->count);
         }
 }
 
@@ -183,13 +206,13 @@ static size_t next_worker(const hall *h, size_t worker) {
 static void repeat_turn(const side *s, stage *g, size_t repeats) {
     hall *h = &g->now;
     for (size_t worker = 0; repeats > 0; repeats--, worker = next_worker(h, worker))
-        if (s->turn) s->turn(h->board, h->words, h->records, h->listed, h->floor, worker);
+        if (s->turn) s->turn(h->board, h->words, h->records, h->listed, h->index, h->entries, h->floor, worker);
 }
 
 static void repeat_lone_turn(const side *s, stage *g, size_t repeats) {
     hall *h = &g->now;
     for (; repeats > 0; repeats--)
-        if (s->turn) s->turn(h->board, h->words, h->records, h->listed, h->floor, 0);
+        if (s->turn) s->turn(h->board, h->words, h->records, h->listed, h->index, h->entries, h->floor, 0);
 }
 
 static void repeat_start_look(const side *s, stage *g, size_t repeats) {
@@ -224,7 +247,7 @@ static void repeat_retire(const side *s, stage *g, size_t repeats) {
     const hall *first = &g->scenes[0].first;
     for (size_t worker = 0; repeats > 0; repeats--, worker = next_worker(h, worker)) {
         h->records[worker] = first->records[worker];
-        if (s->retire) s->retire(h->board, h->words, h->records, h->listed, h->floor, worker);
+        if (s->retire) s->retire(h->board, h->words, h->records, h->listed, h->index, h->entries, h->floor, worker);
     }
 }
 
@@ -232,7 +255,7 @@ static void repeat_open(const side *s, stage *g, size_t repeats) {
     hall *h = &g->now;
     desk_plan plan = {.workers = h->floor.workers, .buckets = h->floor.buckets, .version = 7};
     for (; repeats > 0; repeats--)
-        if (s->open_floor) s->open_floor(h->board, h->words, h->records, h->listed, h->floor, plan);
+        if (s->open_floor) s->open_floor(h->board, h->words, h->records, h->listed, h->index, h->entries, h->floor, plan);
 }
 
 static void repeat_show(const side *s, stage *g, size_t repeats) {
@@ -245,6 +268,36 @@ static void repeat_count(const side *s, stage *g, size_t repeats) {
     const hall *h = &g->now;
     for (; repeats > 0; repeats--)
         if (s->count) s->count(h->board, h->words, h->floor);
+}
+
+static void repeat_total(const side *s, stage *g, size_t repeats) {
+    const hall *h = &g->now;
+    for (; repeats > 0; repeats--)
+        if (s->total) s->total(h->board, h->words, h->index, h->entries, h->floor);
+}
+
+static void repeat_next(const side *s, stage *g, size_t repeats) {
+    const hall *h = &g->now;
+    for (; repeats > 0; repeats--)
+        if (s->next_occupied) s->next_occupied(h->board, h->words, h->index, h->entries, h->floor, 0);
+}
+
+/* the numbers of all occupied buckets, by as many questions and one more */
+static size_t ask_for_all(const side *s, const hall *h, size_t *told) {
+    size_t many = 0;
+    desk_next_outcome next = s->next_occupied(h->board, h->words, h->index, h->entries, h->floor, 0);
+    for (; next.found; next = s->next_occupied(h->board, h->words, h->index, h->entries, h->floor, next.bucket + 1))
+        told[many++] = next.bucket;
+    return many;
+}
+
+/* here the caller's loop over the answers counts too: who reads the board has that loop and no question */
+static void repeat_next_of_all(const side *s, stage *g, size_t repeats) {
+    const hall *h = &g->now;
+    for (; repeats > 0; repeats--) {
+        if (s->occupied) s->occupied(h->board, h->floor, g->told);
+        else if (s->next_occupied) ask_for_all(s, h, g->told);
+    }
 }
 
 static void repeat_orders(const side *s, stage *g, size_t repeats) {
@@ -272,6 +325,7 @@ static size_t turns_of_scenes(const stage *g) {
 typedef struct {
     uint64_t board[BUCKET_WORDS];
     desk_worker records[MOST_IN_CLASS];
+    uint64_t index[INDEX_WORDS];
 } small_class;
 
 /* the engine by hand says where a turn leads, but nothing of its walks is taken for this */
@@ -280,7 +334,7 @@ static size_t turns_from(const small_class *from, desk_floor floor, size_t left)
     for (size_t i = 0; i < floor.workers && left > 0; i++) {
         if (from->records[i].kind == IDLE) continue;
         small_class next = *from;
-        by_hand.turn(next.board, BUCKET_WORDS, next.records, floor.workers, floor, i);
+        by_hand.turn(next.board, BUCKET_WORDS, next.records, floor.workers, next.index, INDEX_WORDS, floor, i);
         turns += 1 + turns_from(&next, floor, left - 1);
     }
     return turns;
@@ -291,25 +345,30 @@ static size_t turns_walked(const stage *g) {
     small_class outset;
     memcpy(outset.board, h->board, sizeof outset.board);
     memcpy(outset.records, h->records, sizeof outset.records);
+    memcpy(outset.index, h->index, sizeof outset.index);
     return turns_from(&outset, h->floor, g->scenes[0].depth);
 }
 
 const operation operations[OPERATIONS] = {
-    {"long-run", "turn", full_scene, repeat_run, turns_of_run, 1, EVERY_SIZE},
-    {"shuffled-run", "turn", shuffled_scene, repeat_run, turns_of_run, 1, EVERY_SIZE},
-    {"mixed-run", "turn", mixed_scenes, repeat_mixed, turns_of_scenes, 1, EVERY_SIZE},
-    {"short-run", "turn", short_scene, repeat_run, turns_of_run, 40, EVERY_SIZE},
-    {"turn", "call", full_scene, repeat_turn, one, WHOLE_ROUNDS, EVERY_SIZE},
-    {"lone-run", "turn", lone_scene, repeat_run, turns_of_run, 1, THREE_SIZES},
-    {"lone-turn", "call", lone_scene, repeat_lone_turn, one, WHOLE_ROUNDS, THREE_SIZES},
-    {"start-look", "call", idle_scene, repeat_start_look, one, 64, THREE_SIZES},
-    {"start-insert", "call", idle_scene, repeat_start_insert, one, 64, THREE_SIZES},
-    {"start-remove", "call", idle_scene, repeat_start_remove, one, 64, THREE_SIZES},
-    {"retire", "call", holders_scene, repeat_retire, one, 64, THREE_SIZES},
-    {"open", "call", idle_scene, repeat_open, one, 8, THREE_SIZES},
-    {"empty-run", "call", idle_scene, repeat_run, one, 64, THREE_SIZES},
-    {"count", "call", idle_scene, repeat_count, one, 8, THREE_SIZES},
-    {"show", "call", idle_scene, repeat_show, one, 64, THREE_SIZES},
-    {"orders-insert", "turn", inserts, repeat_orders, turns_walked, 1, SMALL_CLASSES},
-    {"orders-remove", "turn", inserts_and_remove, repeat_orders, turns_walked, 1, SMALL_CLASSES},
+    {"long-run", "turn", full_scene, repeat_run, turns_of_run, 1, EVERY_SIZE, 0},
+    {"shuffled-run", "turn", shuffled_scene, repeat_run, turns_of_run, 1, EVERY_SIZE, 0},
+    {"mixed-run", "turn", mixed_scenes, repeat_mixed, turns_of_scenes, 1, EVERY_SIZE, 0},
+    {"short-run", "turn", short_scene, repeat_run, turns_of_run, 40, EVERY_SIZE, 0},
+    {"turn", "call", full_scene, repeat_turn, one, WHOLE_ROUNDS, EVERY_SIZE, 0},
+    {"lone-run", "turn", lone_scene, repeat_run, turns_of_run, 1, THREE_SIZES, 0},
+    {"lone-turn", "call", lone_scene, repeat_lone_turn, one, WHOLE_ROUNDS, THREE_SIZES, 0},
+    {"start-look", "call", idle_scene, repeat_start_look, one, 64, THREE_SIZES, 0},
+    {"start-insert", "call", idle_scene, repeat_start_insert, one, 64, THREE_SIZES, 0},
+    {"start-remove", "call", idle_scene, repeat_start_remove, one, 64, THREE_SIZES, 0},
+    {"retire", "call", holders_scene, repeat_retire, one, 64, THREE_SIZES, 0},
+    {"open", "call", idle_scene, repeat_open, one, 8, THREE_SIZES, 0},
+    {"empty-run", "call", idle_scene, repeat_run, one, 64, THREE_SIZES, 0},
+    {"count", "call", idle_scene, repeat_count, one, 8, THREE_SIZES, 0},
+    {"show", "call", idle_scene, repeat_show, one, 64, THREE_SIZES, 0},
+    {"total", "call", idle_scene, repeat_total, one, 64, LARGEST_SIZE, &reading},
+    {"next-last", "call", last_scene, repeat_next, one, 64, LARGEST_SIZE, &reading},
+    {"next-none", "call", empty_scene, repeat_next, one, 64, LARGEST_SIZE, &reading},
+    {"next-of-all", "walk", idle_scene, repeat_next_of_all, one, 8, LARGEST_SIZE, &reading},
+    {"orders-insert", "turn", inserts, repeat_orders, turns_walked, 1, SMALL_CLASSES, &tuned},
+    {"orders-remove", "turn", inserts_and_remove, repeat_orders, turns_walked, 1, SMALL_CLASSES, &tuned},
 };

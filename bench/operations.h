@@ -19,13 +19,15 @@ typedef struct {
 typedef struct {
     scene scenes[SCENES];
     hall now;
+    /* where the occupied buckets' numbers go that a walk over all of them tells */
+    size_t told[MOST_BUCKETS];
     /* for counting instructions, which can take long: all orders go to a lesser depth, which tells the same within 2 in a hundred */
     bool brief;
 } stage;
 
 /* for which N and W an operation is measured: for every N with every W; for the least, the middle and the greatest of both together; for
-   one bucket with two workers and with three */
-typedef enum { EVERY_SIZE, THREE_SIZES, SMALL_CLASSES } sizes;
+   the greatest alone; for one bucket with two workers and with three */
+typedef enum { EVERY_SIZE, THREE_SIZES, LARGEST_SIZE, SMALL_CLASSES } sizes;
 
 typedef struct {
     const char *name;
@@ -37,9 +39,11 @@ typedef struct {
     /* how many repetitions to count instructions over: few, but as many as leave every worker where it stood */
     size_t repeats;
     sizes sizes;
+    /* the side that has a row of its own, in which it stands in the place of the one by hand; or NULL */
+    const side *third;
 } operation;
 
-enum { OPERATIONS = 17 };
+enum { OPERATIONS = 21 };
 extern const operation operations[OPERATIONS];
 
 /* sets a stage up for an operation, and puts it back where that left it before */

@@ -8,19 +8,49 @@ static size_t bucket_start(uint64_t lot, size_t buckets) {
     return BUCKET_WORDS * (lot % buckets);
 }
 
+/* ---- the index (§21): the total, then a bit for each bucket */
+
+enum { INDEX_WORDS = 5, TOTAL = 0, BITS = 1, IN_WORD = 64 };
+
+static bool indexed_fits(size_t words, size_t listed, size_t entries, size_t workers, size_t buckets) {
+    return hall_fits(words, listed, workers, buckets) && entries == INDEX_WORDS;
+}
+
+static bool display_fits(size_t words, size_t entries, size_t workers, size_t buckets) {
+    return board_fits(words, workers, buckets) && entries == INDEX_WORDS;
+}
+
+/* The bit does not say what the bucket's marks do, or the total leaves more valid slots to the other buckets than these have slots (§21.5).
+   Where it is below the bucket's own, what is left goes round, and is more than that too. */
+static bool untrue_index(const uint64_t *index, size_t buckets, size_t number, uint64_t word) {
+    uint64_t valid = valid_slots(word);
+    bool lit = index[BITS + number / IN_WORD] >> number % IN_WORD & 1;
+    return lit != (valid > 0) || index[TOTAL] - valid > SLOTS * (buckets - 1);
+}
+
+/* follows a bucket from one mark word to another; most turns leave it */
+static void follow(uint64_t *index, size_t number, uint64_t before, uint64_t after) {
+    if (before == after) return;
+    uint64_t *word = &index[BITS + number / IN_WORD], bit = (uint64_t)1 << number % IN_WORD, valid = valid_slots(after);
+    *word = valid > 0 ? *word | bit : *word & ~bit;
+    index[TOTAL] += valid - valid_slots(before);
+}
+
 /* ---- opening */
 
 static desk_outcome answer_floor(uint8_t refusal, desk_floor floor) {
     return (desk_outcome){.refusal = refusal, .floor = floor};
 }
 
-desk_outcome plain_open_floor(uint64_t *board, size_t words, desk_worker *records, size_t listed, desk_floor floor, desk_plan plan) {
-    if (!hall_fits(words, listed, plan.workers, plan.buckets)) return answer_floor(DESK_WRONG_SIZES, floor);
+desk_outcome plain_open_floor(uint64_t *board, size_t words, desk_worker *records, size_t listed, uint64_t *index, size_t entries,
+    desk_floor floor, desk_plan plan) {
+    if (!indexed_fits(words, listed, entries, plan.workers, plan.buckets)) return answer_floor(DESK_WRONG_SIZES, floor);
     for (size_t at = 0; at < words; at += BUCKET_WORDS) {
         board[at + MARKS] = plan.version;
         for (size_t i = KEYS; i < BUCKET_WORDS; i++) board[at + i] = 0;
     }
     for (size_t i = 0; i < listed; i++) records[i] = idle_record;
+    for (size_t i = 0; i < INDEX_WORDS; i++) index[i] = 0;
     return answer_floor(0, (desk_floor){.workers = plan.workers, .buckets = plan.buckets, .last = 0});
 }
 
@@ -63,37 +93,24 @@ desk_outcome plain_start_remove(const uint64_t *board, size_t words, desk_worker
 
 /* ---- one turn */
 
-/* The others who are busy sleep through a turn (§20.2): their number counts on in place. An idle record is passed over at a glance. */
-static void let_sleep(desk_worker *records, size_t listed, size_t worker) {
-    for (size_t i = 0; i < listed; i++) {
-        desk_worker *w = &records[i];
-        if (w->kind != IDLE && i != worker && w->asleep != UINT32_MAX && !broken_record(w)) w->asleep++;
-    }
-}
-
 /* The sizes are right; answers the refusal, or 0. A refused turn leaves *report alone, so a run that lends one place keeps the last. */
-static uint8_t give_turn(uint64_t *board, desk_worker *records, const desk_floor *floor, size_t worker, desk_report *report) {
-    if (worker >= floor->workers) return DESK_NO_WORKER;
-    desk_worker *w = &records[worker];
-    if (broken_record(w)) return DESK_BROKEN_RECORD;
-    if (w->kind == IDLE) return DESK_IDLE_WORKER;
-    size_t number = w->key % floor->buckets;
-    uint64_t *bucket = board + BUCKET_WORDS * number;
-    if (broken_bucket(bucket)) return DESK_BROKEN_BUCKET;
-    uint64_t before = bucket[MARKS];
-    w->asleep = 0;
-    desk_report done = act(bucket, w);
+static uint8_t give_turn(uint64_t *board, desk_worker *records, uint64_t *index, const desk_floor *floor, size_t worker,
+    desk_report *report) {
+    size_t number;
+    uint8_t refusal = refuse_turn(board, records, floor, worker, &number);
+    if (refusal != 0) return refusal;
+    if (untrue_index(index, floor->buckets, number, board[BUCKET_WORDS * number + MARKS])) return DESK_UNTRUE_INDEX;
+    *report = do_turn(board, records, worker, number);
+    follow(index, number, report->before, report->after);
     let_sleep(records, floor->workers, worker);
-    done.bucket = number;
-    done.before = before;
-    done.after = bucket[MARKS];
-    *report = done;
     return 0;
 }
 
-desk_turn_outcome plain_turn(uint64_t *board, size_t words, desk_worker *records, size_t listed, desk_floor floor, size_t worker) {
+desk_turn_outcome plain_turn(uint64_t *board, size_t words, desk_worker *records, size_t listed, uint64_t *index, size_t entries,
+    desk_floor floor, size_t worker) {
     desk_turn_outcome turn = {.refusal = DESK_WRONG_SIZES};
-    if (hall_fits(words, listed, floor.workers, floor.buckets)) turn.refusal = give_turn(board, records, &floor, worker, &turn.report);
+    if (indexed_fits(words, listed, entries, floor.workers, floor.buckets))
+        turn.refusal = give_turn(board, records, index, &floor, worker, &turn.report);
     return turn;
 }
 
@@ -111,13 +128,13 @@ static void add_up(desk_totals *totals, const desk_report *report) {
     totals->full += report->full;
 }
 
-desk_run_outcome plain_run(uint64_t *board, size_t words, desk_worker *records, size_t listed, desk_floor floor,
-    const uint8_t *turns, size_t count) {
+desk_run_outcome plain_run(uint64_t *board, size_t words, desk_worker *records, size_t listed, uint64_t *index, size_t entries,
+    desk_floor floor, const uint8_t *turns, size_t count) {
     desk_run_outcome run = {.last = {.action = DESK_READ}};
-    if (!hall_fits(words, listed, floor.workers, floor.buckets)) run.stop = DESK_WRONG_SIZES;
+    if (!indexed_fits(words, listed, entries, floor.workers, floor.buckets)) run.stop = DESK_WRONG_SIZES;
     else if (count > MOST_TURNS) run.stop = DESK_TOO_LONG;
     for (size_t i = 0; i < count && run.stop == 0; i++) {
-        run.stop = give_turn(board, records, &floor, turns[i], &run.last);
+        run.stop = give_turn(board, records, index, &floor, turns[i], &run.last);
         if (run.stop == 0) add_up(&run.totals, &run.last);
     }
     return run;
@@ -125,17 +142,21 @@ desk_run_outcome plain_run(uint64_t *board, size_t words, desk_worker *records, 
 
 /* ---- retiring */
 
-/* the mark goes and the version counts on in one store; where nothing is held the bucket is not even looked at */
-uint8_t plain_retire(uint64_t *board, size_t words, desk_worker *records, size_t listed, desk_floor floor, size_t worker) {
-    if (!hall_fits(words, listed, floor.workers, floor.buckets)) return DESK_WRONG_SIZES;
+/* the mark goes and the version counts on in one store; where nothing is held neither bucket nor index is even looked at */
+uint8_t plain_retire(uint64_t *board, size_t words, desk_worker *records, size_t listed, uint64_t *index, size_t entries, desk_floor floor,
+    size_t worker) {
+    if (!indexed_fits(words, listed, entries, floor.workers, floor.buckets)) return DESK_WRONG_SIZES;
     if (worker >= listed) return DESK_NO_WORKER;
     desk_worker *w = &records[worker];
     if (broken_record(w)) return DESK_BROKEN_RECORD;
     if (w->kind == IDLE) return DESK_IDLE_WORKER;
     if (w->held != HOLDS_NONE) {
-        uint64_t *bucket = board + bucket_start(w->key, floor.buckets);
+        size_t number = w->key % floor.buckets;
+        uint64_t *bucket = board + BUCKET_WORDS * number, before = bucket[MARKS];
         if (broken_bucket(bucket)) return DESK_BROKEN_BUCKET;
-        bucket[MARKS] = with_next_version(with_mark(bucket[MARKS], w->held, EMPTY));
+        if (untrue_index(index, floor.buckets, number, before)) return DESK_UNTRUE_INDEX;
+        bucket[MARKS] = with_next_version(with_mark(before, w->held, EMPTY));
+        follow(index, number, before, bucket[MARKS]);
     }
     *w = idle_record;
     return 0;
@@ -163,4 +184,29 @@ desk_count_outcome plain_count(const uint64_t *board, size_t words, desk_floor f
         for (unsigned slot = 0; slot < SLOTS; slot++) lots += mark(board[at + MARKS], slot) == VALID;
     }
     return (desk_count_outcome){.refusal = 0, .lots = lots};
+}
+
+/* ---- the display's questions */
+
+desk_total_outcome plain_total(const uint64_t *board, size_t words, const uint64_t *index, size_t entries, desk_floor floor) {
+    (void)board;
+    if (!display_fits(words, entries, floor.workers, floor.buckets)) return (desk_total_outcome){.refusal = DESK_WRONG_SIZES};
+    return (desk_total_outcome){.total = index[TOTAL]};
+}
+
+/* The first bit from there on is the answer, or is past the last bucket, as then all others are. */
+desk_next_outcome plain_next_occupied(const uint64_t *board, size_t words, const uint64_t *index, size_t entries, desk_floor floor,
+    size_t from) {
+    (void)board;
+    desk_next_outcome none = {.found = false};
+    if (!display_fits(words, entries, floor.workers, floor.buckets)) return (desk_next_outcome){.refusal = DESK_WRONG_SIZES};
+    if (from >= floor.buckets) return none;
+    size_t at = BITS + from / IN_WORD;
+    uint64_t left = index[at] & UINT64_MAX << from % IN_WORD;
+    while (left == 0) {
+        if (++at == INDEX_WORDS) return none;
+        left = index[at];
+    }
+    size_t bucket = IN_WORD * (at - BITS) + (size_t)__builtin_ctzll(left);
+    return bucket < floor.buckets ? (desk_next_outcome){.bucket = bucket, .found = true} : none;
 }

@@ -1,10 +1,10 @@
-/* Plays a sheet from standard input over the engine by hand and writes its listing to standard output, as the proved program does. */
+/* Plays a sheet from standard input over the engine by hand and writes its listing to standard output, as the proved program does. Neither
+   has a display, so its turns keep no index. */
 #include "libc.h"
-#include "plain.h"
+#include "step.h"
 
-enum { LONGEST_SHEET = 16384, MOST_WORKERS = 64, MOST_BOARD = 2048, BUCKET_WORDS = 8, HEAD = 3 };
+enum { LONGEST_SHEET = 16384, MOST_BOARD = BUCKET_WORDS * MOST_BUCKETS, HEAD = 3 };
 enum { FLOOR = 1, CALL = 2, TURNS = 3 };
-enum { LOOK = 1, INSERT = 2, REMOVE = 3 };
 enum { MALFORMED = 8, SHEET_TOO_LONG = 9 };
 
 /* A line takes at most 24 bytes, and a call that ends has taken a field of 13 bytes and four turns or more: 16,384 bytes of sheet come
@@ -18,6 +18,7 @@ static size_t listed_bytes;
 
 static uint64_t board[MOST_BOARD];
 static desk_worker records[MOST_WORKERS];
+static uint64_t index[DESK_INDEX_WORDS]; /* for the opening, which makes one */
 static size_t words, listed;
 static desk_floor floor;
 static desk_totals totals;
@@ -69,7 +70,7 @@ static uint8_t play_floor(const uint8_t *value, size_t size) {
     desk_plan plan = {.workers = value[0], .buckets = number_at(value + 1, 2), .version = (uint32_t)number_at(value + 3, 4)};
     words = least(BUCKET_WORDS * plan.buckets, MOST_BOARD);
     listed = least(plan.workers, MOST_WORKERS);
-    desk_outcome opened = plain_open_floor(board, words, records, listed, floor, plan);
+    desk_outcome opened = plain_open_floor(board, words, records, listed, index, DESK_INDEX_WORDS, floor, plan);
     floor = opened.floor;
     return opened.refusal;
 }
@@ -99,16 +100,27 @@ static void add_up(const desk_report *report) {
     totals.full += report->full;
 }
 
+static uint8_t give_turn(size_t worker, desk_report *report) {
+    if (!hall_fits(words, listed, floor.workers, floor.buckets)) return DESK_WRONG_SIZES;
+    size_t number;
+    uint8_t refusal = refuse_turn(board, records, &floor, worker, &number);
+    if (refusal != 0) return refusal;
+    *report = do_turn(board, records, worker, number);
+    let_sleep(records, listed, worker);
+    return 0;
+}
+
 static uint8_t play_turns(const uint8_t *value, size_t size) {
     if (size == 0) return MALFORMED;
     for (size_t i = 0; i < size; i++) {
         size_t worker = value[i];
         /* a turn that ends the call leaves an idle record, so the kind is taken before */
         uint8_t kind = worker < listed ? records[worker].kind : 0;
-        desk_turn_outcome turn = plain_turn(board, words, records, listed, floor, worker);
-        if (turn.refusal != 0) return turn.refusal;
-        add_up(&turn.report);
-        if (turn.report.ended) put_end(worker, kind, turn.report.answer);
+        desk_report report;
+        uint8_t refusal = give_turn(worker, &report);
+        if (refusal != 0) return refusal;
+        add_up(&report);
+        if (report.ended) put_end(worker, kind, report.answer);
     }
     return 0;
 }

@@ -1,5 +1,6 @@
 #include "side.h"
 #include "plain.h"
+#include "reading.h"
 
 const side proved = {
     .name = "desk",
@@ -13,6 +14,8 @@ const side proved = {
     .show = desk_show,
     .show_refusal = desk_show_refusal,
     .count = desk_count,
+    .total = desk_total,
+    .next_occupied = desk_next_occupied,
     .orders = desk_orders,
 };
 
@@ -28,9 +31,13 @@ const side by_hand = {
     .show = plain_show,
     .show_refusal = plain_show_refusal,
     .count = plain_count,
+    .total = plain_total,
+    .next_occupied = plain_next_occupied,
     .orders = plain_orders,
 };
 
 const side tuned = {.name = "tuned", .orders = tuned_orders};
+
+const side reading = {.name = "read", .total = read_total, .next_occupied = read_next, .occupied = read_occupied};
 
 const side nobody = {.name = "nobody"};

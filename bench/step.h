@@ -1,5 +1,6 @@
 /* One turn by hand, and what is asked before it: the mark word, the records, the sizes, and one switch over the place. Whatever gives turns
-   compiles its own, so that the switch is built into it: plain.c and plain_orders.c. */
+   compiles its own, so that the switch is built into it: plain.c, plain_orders.c and sheet.c. Of the index only plain.c knows: the others
+   have no display. */
 #ifndef STEP_H
 #define STEP_H
 
@@ -49,6 +50,11 @@ static unsigned first_empty(uint64_t word) {
     return slot;
 }
 
+/* of a word that is not broken: a valid mark has the lowest bit, and no other mark has it */
+static inline uint64_t valid_slots(uint64_t word) {
+    return (word >> 32 & 1) + (word >> 40 & 1) + (word >> 48 & 1);
+}
+
 static bool broken_bucket(const uint64_t *bucket) {
     return broken_word(bucket[MARKS]) || bucket[SPARE] != 0;
 }
@@ -94,7 +100,7 @@ static bool hall_fits(size_t words, size_t listed, size_t workers, size_t bucket
 
 /* ---- one turn */
 
-/* what is reported of the bucket is taken in the same way at every place, so give_turn puts it in */
+/* what is reported of the bucket is taken in the same way at every place, so do_turn puts it in */
 static desk_report goes_on(desk_worker *w, uint8_t action, uint8_t place) {
     w->place = place;
     return (desk_report){.action = action};
@@ -181,6 +187,38 @@ static desk_report act(uint64_t *bucket, desk_worker *w) {
         if (bucket[MARKS] != w->word) return goes_on(w, DESK_LOST, 1);
         bucket[MARKS] = with_mark(w->word, w->slot, EMPTY);
         return ends(w, DESK_WON, w->seen);
+    }
+}
+
+/* ---- a turn on the board, for one worker of the list */
+
+/* The sizes are right; answers the refusal, or 0, and then *number is that of the bucket of the worker's lot. */
+static inline uint8_t refuse_turn(const uint64_t *board, const desk_worker *records, const desk_floor *floor, size_t worker,
+    size_t *number) {
+    if (worker >= floor->workers) return DESK_NO_WORKER;
+    const desk_worker *w = &records[worker];
+    if (broken_record(w)) return DESK_BROKEN_RECORD;
+    if (w->kind == IDLE) return DESK_IDLE_WORKER;
+    *number = w->key % floor->buckets;
+    return broken_bucket(board + BUCKET_WORDS * *number) ? DESK_BROKEN_BUCKET : 0;
+}
+
+/* Nothing refuses it, and the bucket has this number. Afterwards the others sleep through it. */
+static inline desk_report do_turn(uint64_t *board, desk_worker *records, size_t worker, size_t number) {
+    uint64_t *bucket = board + BUCKET_WORDS * number, before = bucket[MARKS];
+    records[worker].asleep = 0;
+    desk_report done = act(bucket, &records[worker]);
+    done.bucket = number;
+    done.before = before;
+    done.after = bucket[MARKS];
+    return done;
+}
+
+/* The others who are busy sleep through a turn (§20.2): their number counts on in place. An idle record is passed over at a glance. */
+static inline void let_sleep(desk_worker *records, size_t listed, size_t worker) {
+    for (size_t i = 0; i < listed; i++) {
+        desk_worker *w = &records[i];
+        if (w->kind != IDLE && i != worker && w->asleep != UINT32_MAX && !broken_record(w)) w->asleep++;
     }
 }
 

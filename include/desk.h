@@ -1,17 +1,19 @@
 /* The desk's library, for C and C++.
 
-   Board, worker records and floor are the caller's own memory. desk_open_floor makes them ready; a start gives an idle worker a call to
-   do, a look, an insert or a remove; each desk_turn then does one memory action of that call, and is given again until it says that the
-   call has ended. A worker that will not go on is retired. README.md, under "From C", has a whole program and how it is built.
+   Board, worker records, index and floor are the caller's own memory. desk_open_floor makes them ready; a start gives an idle worker a
+   call to do, a look, an insert or a remove; each desk_turn then does one memory action of that call, and is given again until it says
+   that the call has ended. A worker that will not go on is retired. The index is for a display that is to find the occupied buckets
+   without a walk over the board: turns and retirings keep it, and two questions are answered from it. README.md, under "From C", has a
+   whole program and how it is built.
 
    What is asked of the caller: a pointer has as many words, records or turns behind it as the number after it says, and what a function
-   may write to overlaps nothing else that it is given. Where that number is 0 the pointer may be NULL: an empty run is
-   desk_run(board, words, records, listed, floor, NULL, 0). All else may be anything: whatever the words, the records and the numbers are,
+   may write to overlaps nothing else that it is given. Where that number is 0 the pointer may be NULL: an empty run is desk_run(board,
+   words, records, listed, index, entries, floor, NULL, 0). All else may be anything: whatever the words, the records and the numbers are,
    every function comes to its end; what does not fit it refuses by a number, and then nothing has changed.
 
-   Threads: the library keeps nothing between two calls and asks the system for nothing. So each thread can have a board, a list and a
-   floor of its own and use them while others use theirs; one board with its list belongs to one thread at a time. Workers are no threads:
-   which of them moves is what the caller says, turn by turn.
+   Threads: the library keeps nothing between two calls and asks the system for nothing. So each thread can have a board, a list, an index
+   and a floor of its own and use them while others use theirs; one board with its list and its index belongs to one thread at a time.
+   Workers are no threads: which of them moves is what the caller says, turn by turn.
 
    What each function leaves and answers is promised in crates/floor/src/lib.rt, that of desk_orders in crates/walks/src/lib.rt, and proved.
    Nothing checks the declarations below against these files but the programs of tests/c, which see each size, each offset and each field
@@ -26,7 +28,7 @@
 /* The number of this interface, for `#if`. It goes up by one when a program that was written for it has to be looked at again: a
    struct has another layout, a function takes or answers something else, a constant stands for something else. Whoever upgrades compares
    it with the number that his program was written for. It has nothing to do with the version in a mark word. */
-#define DESK_VERSION 4
+#define DESK_VERSION 5
 
 /* ---- numbers */
 
@@ -39,6 +41,7 @@ enum {
     DESK_MOST_IN_CLASS = 3,  /* workers of a small class, which has one bucket: see desk_orders */
     DESK_MOST_DEPTH = 24,    /* turns of one of its walks; the least is 1 */
     DESK_BUCKET_WORDS = 8,   /* see "the board" below, also for the places in a bucket */
+    DESK_INDEX_WORDS = 5,    /* see "the index" below */
     DESK_SLOTS = 3,          /* of a bucket */
     DESK_NO_SLOT = 3,        /* the number that stands where there is no slot, as in `held` */
     DESK_AT_MARK = 0,
@@ -48,11 +51,13 @@ enum {
 };
 
 /* What a call answers: done, or the number by which it is refused. Of two reasons the one that the call looks at first is told: the
-   sizes, then a run's length or whether a class is small, the worker's number, its record, whether it is busy, the ticket, the bucket. */
+   sizes, then a run's length or whether a class is small, the worker's number, its record, whether it is busy, the ticket, the bucket, the
+   index. */
 enum {
     DESK_DONE = 0,
-    DESK_WRONG_SIZES = 1,    /* too few or too many workers or buckets, the board not eight words for each bucket, or the list not one
-                                record for each worker (which a show and a count are not given) */
+    DESK_WRONG_SIZES = 1,    /* too few or too many workers or buckets, the board not eight words for each bucket, the list not one
+                                record for each worker, or the index not DESK_INDEX_WORDS words; the list, and the index, where the call is
+                                given one */
     DESK_NO_WORKER = 2,      /* workers are counted from 0, and the number is past the last */
     DESK_BROKEN_RECORD = 3,  /* in the worker's record kind, place, ticket, held, slot and word do not go together: there is no such kind;
                                 it is idle, and not desk_idle_record() in every field; its kind of call never comes to that place; an
@@ -67,8 +72,13 @@ enum {
                                 only one, also where nobody is busy */
     DESK_MALFORMED = 8,      /* a sheet that cannot be read: the number is the rostrum's, and no call here gives it */
     DESK_TOO_LONG = 9,       /* a run of more than DESK_MOST_TURNS */
-    DESK_NO_SMALL_CLASS = 10 /* all orders, of more than one bucket, of more than DESK_MOST_IN_CLASS workers, or to a depth of 0 or of
+    DESK_NO_SMALL_CLASS = 10,
+                             /* all orders, of more than one bucket, of more than DESK_MOST_IN_CLASS workers, or to a depth of 0 or of
                                 more than DESK_MOST_DEPTH */
+    DESK_UNTRUE_INDEX = 11   /* a turn, by itself or in a run, or a retiring of a worker that holds a slot, and the index does not tell
+                                what the bucket of the worker's lot does: the bucket's bit is set and it has no valid slot, or the other
+                                way round; or the total is below its valid slots; or the total is above three slots for every bucket
+                                less the slots of this one that are not valid. Never on an opened board with its own index */
 };
 
 /* What a worker is at: `kind` in its record. */
@@ -108,6 +118,14 @@ enum {
     DESK_MARK_VALID = 1,    /* the slot's lot stands on the slot's ticket */
     DESK_MARK_INSERTING = 2 /* an insert has claimed the slot and not yet committed it */
 };
+
+/* ---- the index
+
+   Of DESK_INDEX_WORDS words the first is the total, the number of valid slots on the board. Then comes a bit for each bucket, which is
+   set where a slot of it is valid: that of bucket b is bit b % 64 of word 1 + b / 64. Bits past the last bucket are 0. desk_open_floor
+   makes it, and as long as every turn, run and retiring of that board is given it, it stays so. An index of any other numbers can be given
+   too: a turn or a retiring follows the bucket of its lot in it and touches nothing else of it, or is refused by DESK_UNTRUE_INDEX; the
+   questions are answered from what stands there. */
 
 /* ---- what goes in and comes back */
 
@@ -202,6 +220,19 @@ typedef struct {
     uint8_t refusal; /* DESK_DONE, or why it is refused */
 } desk_count_outcome;
 
+/* What the display is told of the total. */
+typedef struct {
+    uint64_t total;  /* valid slots, by the index; 0 where refused */
+    uint8_t refusal; /* DESK_DONE, or why it is refused */
+} desk_total_outcome;
+
+/* What it is told of the next occupied bucket. */
+typedef struct {
+    size_t bucket;   /* its number; 0 where there is none, or where refused */
+    bool found;      /* whether there is one; false where refused */
+    uint8_t refusal; /* DESK_DONE, or why it is refused */
+} desk_next_outcome;
+
 /* What all orders come to; where they are refused, all four counts are 0. */
 typedef struct {
     uint64_t finished; /* walks, after which nobody is busy */
@@ -211,15 +242,17 @@ typedef struct {
     uint8_t refusal;   /* DESK_DONE, or why it is refused */
 } desk_orders_outcome;
 
-/* ---- the functions. `words` is how many words the board has, `listed` how many records the list has. */
+/* ---- the functions. `words` is how many words the board has, `listed` how many records the list has, `entries` how many words the
+   index has. */
 
 #ifdef __cplusplus
 extern "C" {
 #endif
 
-/* Opens a floor: every bucket empty and at the plan's version, every worker idle, no ticket spent. The floor that is passed in is the
-   one that stood before, all 0 where there was none; it comes back where the opening is refused. */
-desk_outcome desk_open_floor(uint64_t *board, size_t words, desk_worker *records, size_t listed, desk_floor floor, desk_plan plan);
+/* Opens a floor: every bucket empty and at the plan's version, every worker idle, no ticket spent, an index of zeros. The floor that is
+   passed in is the one that stood before, all 0 where there was none; it comes back where the opening is refused. */
+desk_outcome desk_open_floor(uint64_t *board, size_t words, desk_worker *records, size_t listed, uint64_t *index, size_t entries,
+    desk_floor floor, desk_plan plan);
 
 /* Start a call for an idle worker, and touch no more than its record, in which `asleep` is 0; an insert's ticket becomes the floor's last.
    The call is done by turns for that worker, until one has `ended`. */
@@ -237,27 +270,32 @@ desk_outcome desk_start_remove(const uint64_t *board, size_t words, desk_worker 
 
    A turn that is done leaves 0 in the `asleep` of its worker's record, and whoever else is busy sleeps through it: each other record that is
    busy and not broken counts one more in `asleep`, or stays at the highest number, and nothing else of it is touched. One that is idle stays
-   as it is, and so does one that is broken. Nothing but such a turn counts: no start, no retiring, no show, no count, no walk of all orders,
-   and no turn that is refused. */
-desk_turn_outcome desk_turn(uint64_t *board, size_t words, desk_worker *records, size_t listed, desk_floor floor, size_t worker);
+   as it is, and so does one that is broken. Nothing but such a turn counts: no start, no retiring, no show, no count, no question of the
+   display, no walk of all orders, and no turn that is refused.
 
-/* Retires a worker that is at a call and will not go on: its record becomes idle, and its call has no answer and is never done. If it held
-   a slot, that slot's mark becomes DESK_MARK_EMPTY, whatever it was, and the version of its bucket goes on by one, both in one act; if it
-   held none, its bucket is not looked at. Nothing else is touched; the floor stays as it is, and the ticket of a retired insert stays spent.
-   A retiring is no turn: it reports nothing, is in no totals, and counts in nobody's `asleep`. On an opened board whoever is busy can be
-   retired, and the mark word that the commit of a retired insert would have expected never stands in its bucket again, however the board
-   is used from then on. For a container that comes back after all that is one lost swap, and no leave to go on with its old record: it
-   begins a new call.
+   In the index it follows the bucket of its lot: the total by as much as there are more or fewer valid slots, and the bucket's bit. */
+desk_turn_outcome desk_turn(uint64_t *board, size_t words, desk_worker *records, size_t listed, uint64_t *index, size_t entries,
+    desk_floor floor, size_t worker);
 
-   Answers DESK_DONE, or why it is refused: DESK_WRONG_SIZES, DESK_NO_WORKER, DESK_BROKEN_RECORD, DESK_IDLE_WORKER and DESK_BROKEN_BUCKET are
-   looked at in this order, the last only where a slot is held. */
-uint8_t desk_retire(uint64_t *board, size_t words, desk_worker *records, size_t listed, desk_floor floor, size_t worker);
+/* Retires a worker that is at a call and will not go on: its record becomes idle, and its call has no answer and is never done. If it
+   held a slot, that slot's mark becomes DESK_MARK_EMPTY, whatever it was, and the version of its bucket goes on by one, both in one act;
+   if it held none, its bucket is not looked at, and neither is the index, which else follows the bucket. Nothing else is touched; the
+   floor stays as it is, and the ticket of a retired insert stays spent. A retiring is no turn: it reports nothing, is in no totals, and
+   counts in nobody's `asleep`. On an opened board whoever is busy can be retired, and the mark word that the commit of a retired insert
+   would have expected never stands in its bucket again, however the board is used from then on. For a container that comes back after all
+   that is one lost swap, and no leave to go on with its old record: it begins a new call.
+
+   Answers DESK_DONE, or why it is refused: DESK_WRONG_SIZES, DESK_NO_WORKER, DESK_BROKEN_RECORD, DESK_IDLE_WORKER, DESK_BROKEN_BUCKET and
+   DESK_UNTRUE_INDEX are looked at in this order, the last two only where a slot is held. */
+uint8_t desk_retire(uint64_t *board, size_t words, desk_worker *records, size_t listed, uint64_t *index, size_t entries, desk_floor floor,
+    size_t worker);
 
 /* Does `count` turns, each for the worker whose number stands in `turns`, and stops before the first that is refused; those before it are
-   done, and leave all that as many single turns would, in every record too. It has the report of the last turn done, and not of those before:
-   which turn ended a call it tells of the last one alone. A worker whose call has ended is idle, and a further turn for it stops the run. */
-desk_run_outcome desk_run(uint64_t *board, size_t words, desk_worker *records, size_t listed, desk_floor floor,
-    const uint8_t *turns, size_t count);
+   done, and leave all that as many single turns would, in every record and in the index too. It has the report of the last turn done, and
+   not of those before: which turn ended a call it tells of the last one alone. A worker whose call has ended is idle, and a further turn
+   for it stops the run. */
+desk_run_outcome desk_run(uint64_t *board, size_t words, desk_worker *records, size_t listed, uint64_t *index, size_t entries,
+    desk_floor floor, const uint8_t *turns, size_t count);
 
 /* Tells which words of the board are the bucket of a lot: with `p` for the answer, the eight words from `board + p.start` on. Where
    the show is refused p.words is 0, and the second function, given the same, has the number. */
@@ -267,6 +305,15 @@ uint8_t desk_show_refusal(const uint64_t *board, size_t words, desk_floor floor,
 /* Counts the lots on the board, which are the slots whose mark is valid. One that is being inserted counts from its commit on, and a
    show of its bucket has it before that. */
 desk_count_outcome desk_count(const uint64_t *board, size_t words, desk_floor floor);
+
+/* The two questions of the display. Both are answered from the index alone, of which the second reads four words at most, and are refused
+   by DESK_WRONG_SIZES alone; nothing on the board is looked at. The first tells the total. The second tells the first occupied bucket
+   whose number is `from` or above, or that there is none: asked from 0, and then from one past the bucket that it told, it goes over all
+   that are occupied. On an opened board with its own index the total is what desk_count tells, and the next bucket the one that a walk
+   over the board would come to. */
+desk_total_outcome desk_total(const uint64_t *board, size_t words, const uint64_t *index, size_t entries, desk_floor floor);
+desk_next_outcome desk_next_occupied(const uint64_t *board, size_t words, const uint64_t *index, size_t entries, desk_floor floor,
+    size_t from);
 
 /* Walks every order in which the workers of a small class can have their turns, each order once, where a run is given one of them, and tells
    what the walks come to together. A small class has one bucket and DESK_MOST_IN_CLASS workers at most, each of whom is idle or anywhere

@@ -126,6 +126,7 @@ static void test_past_the_fields(void) {
 static void own_number(uint8_t kind, uint64_t lot, unsigned turns) {
     opened(&one, 2, 1, 9);
     one.board[0] = 0x0000000100000009u, one.board[1] = 7, one.board[4] = 1;
+    read_anew(&one);
     one.records[1] = inserter(0);
     one.records[1].word = 0, one.records[1].held = 2;
     if (kind == DESK_LOOK) CHECK(start_look(&one, 0, lot) == DESK_DONE);
@@ -172,6 +173,7 @@ static void opened_with_sleepers(void) {
     opened(&one, 6, 2, 9);
     one.board[DESK_BUCKET_WORDS + DESK_AT_MARK] = 0x0000020100000009u;
     one.board[DESK_AT_SPARE] = 1;
+    read_anew(&one);
     one.records[0] = inserter(5);
     one.records[1] = inserter(LAST);
     one.records[3] = remover(3), one.records[3].ticket = 1;
@@ -199,6 +201,9 @@ static void test_refused_turns(void) {
     one.listed = 5;
     CHECK(turn(&one, 0).refusal == DESK_WRONG_SIZES && stays_beside(NOBODY));
     one.listed = 6;
+    one.index[0] = 0;
+    CHECK(turn(&one, 0).refusal == DESK_UNTRUE_INDEX && stays_beside(NOBODY));
+    one.index[0] = 1;
     CHECK(run(&one, NULL, 0).stop == DESK_DONE && stays_beside(NOBODY));
     CHECK(run(&one, turns, 1).stop == DESK_IDLE_WORKER && stays_beside(NOBODY));
     CHECK(run(&one, many, ROOM_FOR_TURNS).stop == DESK_TOO_LONG && stays_beside(NOBODY));
@@ -223,6 +228,8 @@ static void test_no_turns(void) {
     CHECK(desk_count(one.board, one.words, one.floor).refusal == DESK_BROKEN_BUCKET && stays_beside(NOBODY));
     one.board[DESK_AT_SPARE] = 0;
     CHECK(desk_count(one.board, one.words, one.floor).lots == 1 && stays_beside(NOBODY));
+    CHECK(total(&one).total == 1 && stays_beside(NOBODY));
+    CHECK(next_occupied(&one, 0).bucket == 1 && stays_beside(NOBODY));
     CHECK(open_hall(&one, 6, 3, 0) == DESK_WRONG_SIZES && stays_beside(NOBODY));
 }
 
@@ -259,6 +266,7 @@ static void test_longest_run(void) {
     for (size_t i = 0; i < 4; i++) {
         opened(&one, 3, 1, 9);
         one.board[0] = 0x0001010100000009u;
+        read_anew(&one);
         CHECK(start_insert(&one, 1, 7, 1) == DESK_DONE);
         one.records[0] = looker(from[i]);
         one.records[2] = looker(0);

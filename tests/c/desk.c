@@ -1,7 +1,7 @@
 /* The library from C: every field where C reads it, the sleeper by single turns and by one run, a show and a count with the header's own
    readers, what the screen shows of an insert turn by turn, who has been asleep (asleep.c), what is reported (reports.c), all orders
-   (orders.c), retirings (retire.c), every refusal (refusals.c), and a full round. Says what is not as it should be, and how many checks
-   were made. */
+   (orders.c), retirings (retire.c), the hall display (display.c), every refusal (refusals.c), and a full round. Says what is not as it
+   should be, and how many checks were made. */
 #include "hall.h"
 #include <stdio.h>
 
@@ -25,6 +25,8 @@ static void test_layout(void) {
     CHECK(one.records[3].kind == 9 && one.records[3].key == 3);
     for (size_t i = 0; i < 16; i++) CHECK(one.board[i] == (i % 8 == 0 ? 0xFFFFFFFFu : 0));
     CHECK(one.board[16] == 0x5555555555555555u + 16);
+    for (size_t i = 0; i < 5; i++) CHECK(one.index[i] == 0);
+    CHECK(one.index[5] == 0x3333333333333333u + 5);
     CHECK(one.floor.workers == 3 && one.floor.buckets == 2 && one.floor.last == 0);
 
     /* an insert that is about to store its key in slot 1: each field has a value of its own, and one turn leaves it in its place, but for
@@ -56,10 +58,11 @@ static void test_layout(void) {
     CHECK(start_remove(&one, 1, 5) == DESK_BUSY_WORKER);
 }
 
-/* what a count tells, where it is accepted */
+/* what a count tells, where it is accepted; the display is told the same */
 static size_t counted(const hall *h) {
     desk_count_outcome c = desk_count(h->board, h->words, h->floor);
-    CHECK(c.refusal == DESK_DONE);
+    desk_total_outcome t = total(h);
+    CHECK(c.refusal == DESK_DONE && t.refusal == DESK_DONE && t.total == c.lots);
     return c.lots;
 }
 
@@ -81,6 +84,11 @@ static void add_turn(desk_totals *sum, desk_report r, bool change) {
     sum->full += r.full;
 }
 
+/* whether the only bucket's lamp is lit after so many turns, as docs/CLASS.md has it */
+static bool lit_after(unsigned turns) {
+    return (turns >= 11 && turns < 18) || (turns >= 29 && turns < 34);
+}
+
 /* there is one bucket, so each turn meets the word that the one before it left */
 static void play_singly(hall *h, stretch s, desk_totals *sum) {
     for (unsigned i = 0; i < s.turns; i++) {
@@ -95,6 +103,7 @@ static void play_singly(hall *h, stretch s, desk_totals *sum) {
         CHECK((r.before != r.after) == change);
         told[sum->turns] = r;
         add_turn(sum, r, change);
+        CHECK(h->index[1] == lit_after(sum->turns));
     }
 }
 
@@ -371,6 +380,7 @@ int main(void) {
     test_reports();
     test_orders();
     test_retire();
+    test_display();
     test_refusals();
     test_full_round();
     test_lengths();

@@ -3,6 +3,7 @@
 hall one, two, before;
 static hall singly, unwalked, unretired;
 static desk_worker stood[ROOM_FOR_WORKERS];
+static uint64_t displayed[ROOM_FOR_ENTRIES];
 uint8_t many[ROOM_FOR_TURNS];
 const desk_report refused_report = {.action = DESK_NONE}, no_turn = {.action = DESK_READ};
 
@@ -20,13 +21,27 @@ static bool same_floor(desk_floor a, desk_floor b) {
     return a.workers == b.workers && a.buckets == b.buckets && a.last == b.last;
 }
 
-/* every word and every record, also those past what is lent */
+static bool same_index(const uint64_t *a, const uint64_t *b) {
+    for (size_t i = 0; i < ROOM_FOR_ENTRIES; i++)
+        if (a[i] != b[i]) return false;
+    return true;
+}
+
+/* every word, every record and every entry, also those past what is lent */
 bool same_hall(const hall *a, const hall *b) {
     for (size_t i = 0; i < DESK_BUCKET_WORDS * ROOM_FOR_BUCKETS; i++)
         if (a->board[i] != b->board[i]) return false;
     for (size_t i = 0; i < ROOM_FOR_WORKERS; i++)
         if (!same_record(&a->records[i], &b->records[i])) return false;
-    return same_floor(a->floor, b->floor);
+    return same_index(a->index, b->index) && same_floor(a->floor, b->floor);
+}
+
+size_t below(size_t bound) {
+    static uint64_t state = 1;
+    uint64_t z = state += 0x9e3779b97f4a7c15u;
+    z = (z ^ z >> 30) * 0xbf58476d1ce4e5b9u;
+    z = (z ^ z >> 27) * 0x94d049bb133111ebu;
+    return (z ^ z >> 31) % bound;
 }
 
 void copy_hall(hall *to, const hall *from) {
@@ -38,6 +53,7 @@ void fill(hall *h) {
     for (size_t i = 0; i < ROOM_FOR_WORKERS; i++)
         h->records[i] =
             (desk_worker){.key = i, .word = 9, .seen = 9, .ticket = 9, .asleep = 9, .kind = 9, .place = 9, .slot = 9, .held = 9};
+    for (size_t i = 0; i < ROOM_FOR_ENTRIES; i++) h->index[i] = 0x3333333333333333u + i;
     h->floor = (desk_floor){.workers = 3, .buckets = 5, .last = 77};
 }
 
@@ -45,6 +61,7 @@ void opened(hall *h, size_t workers, size_t buckets, uint32_t version) {
     fill(h);
     h->words = DESK_BUCKET_WORDS * buckets;
     h->listed = workers;
+    h->entries = DESK_INDEX_WORDS;
     CHECK(open_hall(h, workers, buckets, version) == DESK_DONE);
 }
 
@@ -55,7 +72,7 @@ static uint8_t kept(hall *h, desk_outcome o) {
 
 uint8_t open_hall(hall *h, size_t workers, size_t buckets, uint32_t version) {
     desk_plan plan = {.workers = workers, .buckets = buckets, .version = version};
-    return kept(h, desk_open_floor(h->board, h->words, h->records, h->listed, h->floor, plan));
+    return kept(h, desk_open_floor(h->board, h->words, h->records, h->listed, h->index, h->entries, h->floor, plan));
 }
 
 uint8_t start_look(hall *h, size_t worker, uint64_t lot) {
@@ -74,6 +91,44 @@ uint8_t start_remove(hall *h, size_t worker, uint64_t lot) {
 /* 0 for a bucket that is past the room, as the sizes that are refused can lead to one */
 static uint64_t mark_word(const hall *h, size_t bucket) {
     return bucket < ROOM_FOR_BUCKETS ? h->board[DESK_BUCKET_WORDS * bucket + DESK_AT_MARK] : 0;
+}
+
+size_t valid_slots(uint64_t word) {
+    size_t valid = 0;
+    for (size_t i = 0; i < DESK_SLOTS; i++) valid += desk_mark(word, i) == DESK_MARK_VALID;
+    return valid;
+}
+
+/* §21.1: which bit of which word is a bucket's */
+static void put_bit(uint64_t *index, size_t bucket, bool set) {
+    uint64_t bit = 1ull << bucket % 64, *word = &index[1 + bucket / 64];
+    *word = set ? *word | bit : *word & ~bit;
+}
+
+/* the index that is true of a board, which has all its buckets read for it */
+static void full_reading(const hall *h, uint64_t *index) {
+    for (size_t i = 0; i < DESK_INDEX_WORDS; i++) index[i] = 0;
+    for (size_t i = 0; i < h->floor.buckets; i++) {
+        size_t valid = valid_slots(mark_word(h, i));
+        index[0] += valid;
+        put_bit(index, i, valid > 0);
+    }
+}
+
+void read_anew(hall *h) { full_reading(h, h->index); }
+
+bool is_true(const hall *h) {
+    uint64_t read[DESK_INDEX_WORDS];
+    full_reading(h, read);
+    for (size_t i = 0; i < DESK_INDEX_WORDS; i++)
+        if (h->index[i] != read[i]) return false;
+    return true;
+}
+
+/* §21.2: what an index becomes when the mark word of a bucket becomes another */
+static void follow(uint64_t *index, size_t bucket, uint64_t word, uint64_t after) {
+    index[0] = index[0] - valid_slots(word) + valid_slots(after);
+    put_bit(index, bucket, valid_slots(after) > 0);
 }
 
 bool is_busy(desk_worker w) {
@@ -107,23 +162,27 @@ desk_turn_outcome turn(hall *h, size_t worker) {
     size_t bucket = worker < h->listed ? desk_bucket(h->records[worker].key, h->floor.buckets) : 0;
     uint64_t word = mark_word(h, bucket);
     for (size_t i = 0; i < ROOM_FOR_WORKERS; i++) stood[i] = h->records[i];
-    desk_turn_outcome t = desk_turn(h->board, h->words, h->records, h->listed, h->floor, worker);
+    for (size_t i = 0; i < ROOM_FOR_ENTRIES; i++) displayed[i] = h->index[i];
+    desk_turn_outcome t = desk_turn(h->board, h->words, h->records, h->listed, h->index, h->entries, h->floor, worker);
     if (t.refusal == DESK_DONE) {
         CHECK(t.report.bucket == bucket);
         CHECK(t.report.before == word && t.report.after == mark_word(h, bucket));
         CHECK(h->records[worker].asleep == 0 && others_slept(h, worker));
+        follow(displayed, bucket, word, mark_word(h, bucket));
     } else {
         CHECK(nobody_slept(h));
     }
+    CHECK(same_index(h->index, displayed));
     return t;
 }
 
 desk_run_outcome run(hall *h, const uint8_t *turns, size_t count) {
     copy_hall(&singly, h);
-    desk_run_outcome r = desk_run(h->board, h->words, h->records, h->listed, h->floor, turns, count);
+    desk_run_outcome r = desk_run(h->board, h->words, h->records, h->listed, h->index, h->entries, h->floor, turns, count);
     desk_report last = no_turn;
+    hall *s = &singly;
     for (size_t i = 0; i < count && i < r.totals.turns; i++)
-        last = desk_turn(singly.board, singly.words, singly.records, singly.listed, singly.floor, turns[i]).report;
+        last = desk_turn(s->board, s->words, s->records, s->listed, s->index, s->entries, s->floor, turns[i]).report;
     CHECK(same_report(r.last, last));
     CHECK(same_hall(h, &singly));
     return r;
@@ -145,15 +204,17 @@ static uint64_t without_mark(uint64_t word, size_t slot) {
 static void expect_retired(hall *h, size_t worker) {
     desk_worker *w = &h->records[worker];
     if (w->held != DESK_NO_SLOT) {
-        uint64_t *bucket = h->board + DESK_BUCKET_WORDS * desk_bucket(w->key, h->floor.buckets);
-        bucket[DESK_AT_MARK] = without_mark(bucket[DESK_AT_MARK], w->held);
+        size_t bucket = desk_bucket(w->key, h->floor.buckets);
+        uint64_t *word = &h->board[DESK_BUCKET_WORDS * bucket + DESK_AT_MARK], after = without_mark(*word, w->held);
+        follow(h->index, bucket, *word, after);
+        *word = after;
     }
     *w = desk_idle_record();
 }
 
 uint8_t retire(hall *h, size_t worker) {
     copy_hall(&unretired, h);
-    uint8_t refusal = desk_retire(h->board, h->words, h->records, h->listed, h->floor, worker);
+    uint8_t refusal = desk_retire(h->board, h->words, h->records, h->listed, h->index, h->entries, h->floor, worker);
     if (refusal == DESK_DONE) expect_retired(&unretired, worker);
     CHECK(same_hall(h, &unretired));
     return refusal;
@@ -164,6 +225,31 @@ desk_orders_outcome orders(const hall *h, size_t depth) {
     desk_orders_outcome o = desk_orders(h->board, h->words, h->records, h->listed, h->floor, depth);
     CHECK(same_hall(h, &unwalked));
     return o;
+}
+
+desk_total_outcome total(const hall *h) { return desk_total(h->board, h->words, h->index, h->entries, h->floor); }
+
+desk_next_outcome next_occupied(const hall *h, size_t from) {
+    return desk_next_occupied(h->board, h->words, h->index, h->entries, h->floor, from);
+}
+
+uint8_t refused_turn(size_t worker) {
+    desk_turn_outcome t = turn(&one, worker);
+    CHECK(same_report(t.report, refused_report));
+    return t.refusal;
+}
+
+uint8_t refused_run(const uint8_t *turns, size_t count) {
+    desk_run_outcome r = run(&one, turns, count);
+    CHECK(counts(r, 0, 0, 0, 0, r.stop));
+    CHECK(same_report(r.last, no_turn));
+    return r.stop;
+}
+
+uint8_t refused_orders(size_t depth) {
+    desk_orders_outcome o = orders(&one, depth);
+    CHECK(o.finished == 0 && o.cut == 0 && o.lost == 0 && o.most == 0);
+    return o.refusal;
 }
 
 bool walked(desk_orders_outcome o, uint64_t finished, uint64_t cut, uint64_t lost, uint64_t most) {

@@ -1,5 +1,5 @@
 /* All orders: what the call tells of a class, beside every order of it found here, turn by turn, and then given to the library as a run;
-   figures that can be told beforehand; and that nothing lent is written to. Rules: docs/RULES.md, section 18. */
+   figures that can be told beforehand; that nothing lent is written to; and when it is refused. Rules: docs/RULES.md, section 18. */
 #include "hall.h"
 
 /* ---- every order, one by one */
@@ -7,6 +7,7 @@
 typedef struct {
     uint64_t board[DESK_BUCKET_WORDS];
     desk_worker records[DESK_MOST_IN_CLASS];
+    uint64_t index[DESK_INDEX_WORDS]; /* of which the call knows nothing; it is for the turns and the runs beside it */
 } small_class;
 
 /* the order that is being made, what all before it came to, and whether none of them was told by a run otherwise than by its turns */
@@ -22,6 +23,7 @@ static small_class class_of(const hall *h) {
     small_class c;
     for (size_t i = 0; i < DESK_BUCKET_WORDS; i++) c.board[i] = h->board[i];
     for (size_t i = 0; i < DESK_MOST_IN_CLASS; i++) c.records[i] = i < h->listed ? h->records[i] : desk_idle_record();
+    for (size_t i = 0; i < DESK_INDEX_WORDS; i++) c.index[i] = h->index[i];
     return c;
 }
 
@@ -30,6 +32,8 @@ static bool same_class(const small_class *a, const small_class *b) {
         if (a->board[i] != b->board[i]) return false;
     for (size_t i = 0; i < DESK_MOST_IN_CLASS; i++)
         if (!same_record(&a->records[i], &b->records[i])) return false;
+    for (size_t i = 0; i < DESK_INDEX_WORDS; i++)
+        if (a->index[i] != b->index[i]) return false;
     return true;
 }
 
@@ -39,7 +43,9 @@ static bool busy(const small_class *c, size_t worker) { return c->records[worker
 static void add_order(account *a, const small_class *now, size_t turns) {
     small_class left = class_of(a->outset);
     size_t workers = a->outset->listed;
-    desk_run_outcome r = desk_run(left.board, DESK_BUCKET_WORDS, left.records, workers, a->outset->floor, a->turns, turns);
+    desk_floor floor = a->outset->floor;
+    desk_run_outcome r =
+        desk_run(left.board, DESK_BUCKET_WORDS, left.records, workers, left.index, DESK_INDEX_WORDS, floor, a->turns, turns);
     if (r.stop != DESK_DONE || r.totals.turns != turns || !same_class(&left, now)) a->as_runs = false;
     bool finished = true;
     for (size_t i = 0; i < workers; i++) finished = finished && !busy(&left, i);
@@ -52,11 +58,13 @@ static void add_order(account *a, const small_class *now, size_t turns) {
 /* every order whose first turns are those made so far; each busy worker in turn has the next one */
 static void try_orders(account *a, const small_class *now, size_t turns) {
     bool ended = true;
-    for (size_t i = 0; i < a->outset->listed && turns < a->depth; i++) {
+    size_t workers = a->outset->listed;
+    desk_floor floor = a->outset->floor;
+    for (size_t i = 0; i < workers && turns < a->depth; i++) {
         if (!busy(now, i)) continue;
         small_class next = *now;
-        if (desk_turn(next.board, DESK_BUCKET_WORDS, next.records, a->outset->listed, a->outset->floor, i).refusal != DESK_DONE)
-            a->as_runs = false;
+        desk_turn_outcome t = desk_turn(next.board, DESK_BUCKET_WORDS, next.records, workers, next.index, DESK_INDEX_WORDS, floor, i);
+        if (t.refusal != DESK_DONE) a->as_runs = false;
         a->turns[turns] = (uint8_t)i;
         try_orders(a, &next, turns + 1);
         ended = false;
@@ -201,6 +209,7 @@ static void test_idle_ones(void) {
 static void test_any_records(void) {
     opened_class(&one, 3);
     one.board[0] = 0x0002010200000005u, one.board[2] = 9, one.board[5] = 0;
+    read_anew(&one);
     one.records[0] = (desk_worker){.kind = DESK_INSERT, .place = 9, .key = 7, .ticket = 4, .word = one.board[0], .held = 1};
     one.records[1] = (desk_worker){.kind = DESK_INSERT, .place = 10, .key = 7, .ticket = 4, .slot = 2, .held = 1};
     one.records[2] = (desk_worker){.kind = DESK_REMOVE, .place = 13, .key = 9, .word = 3, .slot = 1, .seen = 6, .held = DESK_NO_SLOT};
@@ -220,8 +229,114 @@ static void test_read_only(void) {
     opened_class(&one, 2);
     for (size_t i = 0; i < DESK_BUCKET_WORDS; i++) one.board[i] = shut_board[i];
     for (size_t i = 0; i < 2; i++) one.records[i] = shut_records[i];
+    read_anew(&one);
     desk_orders_outcome o = desk_orders(shut_board, DESK_BUCKET_WORDS, shut_records, 2, floor, 10), same = ordered(&one, 10);
     CHECK(walked(o, same.finished, same.cut, same.lost, same.most));
+}
+
+/* ---- refusals: 10 by each cause alone and both ends of each range; a broken record of whichever worker; the bucket, also where nobody is
+   busy; and which comes first */
+
+static bool accepted_orders(size_t depth) {
+    return orders(&one, depth).refusal == DESK_DONE;
+}
+
+static void test_small_class(void) {
+    static const size_t no_depth[] = {0, 25, 256, 257, 4294967296u, 4294967297u, SIZE_MAX};
+    for (size_t workers = 1; workers <= 3; workers++) {
+        opened(&one, workers, 1, 9);
+        CHECK(start_look(&one, workers - 1, 7) == DESK_DONE);
+        CHECK(accepted_orders(1) && accepted_orders(24));
+        for (size_t i = 0; i < sizeof no_depth / sizeof no_depth[0]; i++) REFUSED(DESK_NO_SMALL_CLASS, refused_orders(no_depth[i]));
+    }
+    static const size_t too_many_workers[] = {4, 5, 64}, too_many_buckets[] = {2, 3, 256};
+    for (unsigned i = 0; i < 3; i++) {
+        opened(&one, too_many_workers[i], 1, 9);
+        REFUSED(DESK_NO_SMALL_CLASS, refused_orders(1));
+        opened(&one, 1, too_many_buckets[i], 9);
+        REFUSED(DESK_NO_SMALL_CLASS, refused_orders(1));
+        opened(&one, too_many_workers[i], too_many_buckets[i], 9);
+        REFUSED(DESK_NO_SMALL_CLASS, refused_orders(0));
+    }
+}
+
+/* what makes a record broken, one thing in each; the others of the class are sound, or idle */
+static void test_broken_in_class(void) {
+    uint64_t no_mark_word = 3ull << 40;
+    const desk_worker broken[] = {
+        {.kind = 4, .place = 2, .held = 3},
+        {.held = 0},
+        {.held = 3, .seen = 1},
+        {.held = 3, .asleep = 1},
+        {.held = 3, .asleep = UINT32_MAX},
+        {.kind = DESK_LOOK, .place = 1, .held = 3},
+        {.kind = DESK_LOOK, .place = 6, .held = 3},
+        {.kind = DESK_LOOK, .place = 2, .slot = 3, .held = 3},
+        {.kind = DESK_LOOK, .place = 2, .held = 3, .ticket = 1},
+        {.kind = DESK_LOOK, .place = 2, .held = 3, .word = 1},
+        {.kind = DESK_LOOK, .place = 2, .held = 2},
+        {.kind = DESK_INSERT, .place = 11, .held = 2, .ticket = 1},
+        {.kind = DESK_INSERT, .place = 1, .held = 3},
+        {.kind = DESK_INSERT, .place = 6, .held = 0, .ticket = 1},
+        {.kind = DESK_INSERT, .place = 7, .held = 3, .ticket = 1},
+        {.kind = DESK_INSERT, .place = 1, .held = 4, .ticket = 1},
+        {.kind = DESK_INSERT, .place = 1, .held = 3, .ticket = 1, .word = no_mark_word},
+        {.kind = DESK_REMOVE, .place = 10, .held = 3},
+        {.kind = DESK_REMOVE, .place = 14, .held = 3},
+        {.kind = DESK_REMOVE, .place = 13, .held = 3, .ticket = 1},
+        {.kind = DESK_REMOVE, .place = 13, .held = 1},
+        {.kind = DESK_REMOVE, .place = 13, .held = 3, .word = 1ull << 56},
+    };
+    for (size_t i = 0; i < sizeof broken / sizeof broken[0]; i++)
+        for (size_t worker = 0; worker < 3; worker++) {
+            opened(&one, 3, 1, 9);
+            CHECK(start_insert(&one, (worker + 1) % 3, 7, 1) == DESK_DONE && accepted_orders(2));
+            one.records[worker] = broken[i];
+            REFUSED(DESK_BROKEN_RECORD, refused_orders(1));
+        }
+}
+
+static void test_broken_bucket_of_class(void) {
+    static const uint64_t words[] = {3ull << 32, 4ull << 40, 255ull << 48, 1ull << 56, 1ull << 63};
+    opened(&one, 2, 1, 9);
+    for (unsigned busy = 0; busy < 2; busy++) {
+        for (size_t i = 0; i < sizeof words / sizeof words[0]; i++) {
+            one.board[DESK_AT_MARK] = words[i];
+            REFUSED(DESK_BROKEN_BUCKET, refused_orders(24));
+        }
+        one.board[DESK_AT_MARK] = 0x0002010000000009u;
+        one.board[DESK_AT_SPARE] = 1ull << 63;
+        REFUSED(DESK_BROKEN_BUCKET, refused_orders(24));
+        one.board[DESK_AT_SPARE] = 0;
+        CHECK(accepted_orders(24));
+        CHECK(busy > 0 || start_remove(&one, 1, 7) == DESK_DONE);
+    }
+}
+
+/* everything is wrong, and then one thing less after another */
+static void test_order_in_class(void) {
+    opened(&one, 3, 1, 9);
+    one.board[DESK_AT_SPARE] = 1;
+    one.records[2].place = 14;
+    one.listed = 2;
+    REFUSED(DESK_WRONG_SIZES, refused_orders(25));
+    one.listed = 3;
+    REFUSED(DESK_NO_SMALL_CLASS, refused_orders(25));
+    REFUSED(DESK_BROKEN_RECORD, refused_orders(24));
+    one.records[2].place = 0;
+    REFUSED(DESK_BROKEN_BUCKET, refused_orders(24));
+    one.board[DESK_AT_SPARE] = 0;
+    CHECK(accepted_orders(24));
+    /* 10 before 3 and before 7 by each of its other causes, with the rest as it should be */
+    opened(&one, 4, 1, 9);
+    one.records[0].place = 14;
+    REFUSED(DESK_NO_SMALL_CLASS, refused_orders(1));
+    opened(&one, 3, 2, 9);
+    one.records[0].place = 14;
+    REFUSED(DESK_NO_SMALL_CLASS, refused_orders(1));
+    opened(&one, 3, 2, 9);
+    one.board[DESK_AT_SPARE] = 1;
+    REFUSED(DESK_NO_SMALL_CLASS, refused_orders(1));
 }
 
 void test_orders(void) {
@@ -235,4 +350,8 @@ void test_orders(void) {
     test_idle_ones();
     test_any_records();
     test_read_only();
+    test_small_class();
+    test_broken_in_class();
+    test_broken_bucket_of_class();
+    test_order_in_class();
 }

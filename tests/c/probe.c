@@ -1,19 +1,21 @@
-/* The probe: reads a stream of cases, each any floor, any board, any records and a call with any numbers, makes the library's call, and
-   writes for each what came back and everything that stands afterwards; also where the library wrote outside of what it was lent.
+/* The probe: reads a stream of cases, each any floor, any board, any records, any index and a call with any numbers, makes the library's
+   call, and writes for each what came back and everything that stands afterwards; also where the library wrote outside of what it was lent.
    tests/reference/README.md has the form of a case and of a line. */
 #include "desk.h"
 #include <stdio.h>
 #include <string.h>
 
-/* a body; two buckets more than a board can have; as many records more than a list can have as a byte has values; some turns more than a
-   run may have; and how much stands on both sides of the board and of the list, and of which byte */
-enum { LONGEST = 65535, MOST_WORDS = 2064, MOST_RECORDS = 320, MOST_TURNS = 65540, FENCE = 8, POST = 0xa5 };
+/* a body; two buckets more than a board can have; as many records more than a list can have as a byte has values; eight words more than an
+   index has; some turns more than a run may have; and how much stands on both sides of the board, of the list and of the index, and of which
+   byte */
+enum { LONGEST = 65535, MOST_WORDS = 2064, MOST_RECORDS = 320, MOST_ENTRIES = 13, MOST_TURNS = 65540, FENCE = 8, POST = 0xa5 };
 
 static uint8_t body[LONGEST], turns[MOST_TURNS];
 static size_t length, next, count;
 static uint64_t fenced_board[FENCE + MOST_WORDS + FENCE], *const board = fenced_board + FENCE;
 static desk_worker fenced_records[FENCE + MOST_RECORDS + FENCE], *const records = fenced_records + FENCE;
-static size_t words, listed;
+static uint64_t fenced_index[FENCE + MOST_ENTRIES + FENCE], *const display = fenced_index + FENCE;
+static size_t words, listed, entries;
 static desk_floor floor;
 
 /* ---- a case out of its bytes; those that it does not have read as 0 */
@@ -37,16 +39,18 @@ static size_t least(uint64_t a, size_t b) {
     return a < b ? a : b;
 }
 
-static void read_board(void) {
+/* the board or the index; how many words it has */
+static size_t read_words(uint64_t *part, size_t most) {
     uint64_t more = 0, word = 0;
-    words = least(number(), MOST_WORDS);
-    for (size_t i = 0; i < words; i++, more--) {
+    size_t many = least(number(), most);
+    for (size_t i = 0; i < many; i++, more--) {
         if (more == 0) {
             more = byte() + 1;
             word = number();
         }
-        board[i] = word;
+        part[i] = word;
     }
+    return many;
 }
 
 static desk_worker read_record(void) {
@@ -94,6 +98,8 @@ static void fence(void) {
     memset(board + words, POST, FENCE * sizeof *board);
     memset(fenced_records, POST, FENCE * sizeof *records);
     memset(records + listed, POST, FENCE * sizeof *records);
+    memset(fenced_index, POST, FENCE * sizeof *display);
+    memset(display + entries, POST, FENCE * sizeof *display);
 }
 
 static bool stands(const void *side, size_t bytes) {
@@ -106,10 +112,12 @@ static bool stands(const void *side, size_t bytes) {
 }
 
 static void check_fence(void) {
-    if (!stands(fenced_board, FENCE * sizeof *board) || !stands(fenced_records, FENCE * sizeof *records)) {
+    if (!stands(fenced_board, FENCE * sizeof *board) || !stands(fenced_records, FENCE * sizeof *records) ||
+        !stands(fenced_index, FENCE * sizeof *display)) {
         printf(" written before the start");
     }
-    if (!stands(board + words, FENCE * sizeof *board) || !stands(records + listed, FENCE * sizeof *records)) {
+    if (!stands(board + words, FENCE * sizeof *board) || !stands(records + listed, FENCE * sizeof *records) ||
+        !stands(display + entries, FENCE * sizeof *display)) {
         printf(" written past the end");
     }
 }
@@ -187,19 +195,31 @@ static void orders_outcome(desk_orders_outcome o) {
     printf("orders %x %lx %lx %lx %lx", o.refusal, o.finished, o.cut, o.lost, o.most);
 }
 
-/* the number of the worker is the depth, where all orders are asked for */
+static void total_outcome(desk_total_outcome t) {
+    printf("total %x %lx", t.refusal, t.total);
+}
+
+static void next_outcome(desk_next_outcome n) {
+    printf("next %x %x %lx", n.refusal, n.found, n.bucket);
+}
+
+/* the number of the worker is the depth, where all orders are asked for, and where the next occupied bucket is, the one to begin with */
 static void call(unsigned which, uint64_t worker, uint64_t lot, uint32_t ticket) {
     switch (which) {
-    case 0: outcome("open", desk_open_floor(board, words, records, listed, floor, (desk_plan){worker, lot, ticket})); break;
+    case 0:
+        outcome("open", desk_open_floor(board, words, records, listed, display, entries, floor, (desk_plan){worker, lot, ticket}));
+        break;
     case 1: outcome("look", desk_start_look(board, words, records, listed, floor, worker, lot)); break;
     case 2: outcome("insert", desk_start_insert(board, words, records, listed, floor, worker, (desk_bid){lot, ticket})); break;
     case 3: outcome("remove", desk_start_remove(board, words, records, listed, floor, worker, lot)); break;
-    case 4: turn_outcome(desk_turn(board, words, records, listed, floor, worker)); break;
-    case 5: run_outcome(desk_run(board, words, records, listed, floor, turns, count)); break;
+    case 4: turn_outcome(desk_turn(board, words, records, listed, display, entries, floor, worker)); break;
+    case 5: run_outcome(desk_run(board, words, records, listed, display, entries, floor, turns, count)); break;
     case 6: show_outcome(lot); break;
     case 7: count_outcome(desk_count(board, words, floor)); break;
     case 8: orders_outcome(desk_orders(board, words, records, listed, floor, worker)); break;
-    default: printf("retire %x", desk_retire(board, words, records, listed, floor, worker)); break;
+    case 9: printf("retire %x", desk_retire(board, words, records, listed, display, entries, floor, worker)); break;
+    case 10: total_outcome(desk_total(board, words, display, entries, floor)); break;
+    default: next_outcome(desk_next_occupied(board, words, display, entries, floor, worker)); break;
     }
 }
 
@@ -208,20 +228,22 @@ int main(void) {
     while (fread(head, 1, 2, stdin) == 2) {
         length = fread(body, 1, (size_t)head[0] << 8 | head[1], stdin);
         next = 0;
-        unsigned which = (unsigned)byte() % 10;
+        unsigned which = (unsigned)byte() % 12;
         floor.workers = number();
         floor.buckets = number();
         floor.last = (uint32_t)number();
         uint64_t worker = number(), lot = number();
         uint32_t ticket = (uint32_t)number();
-        read_board();
+        words = read_words(board, MOST_WORDS);
         read_records();
+        entries = read_words(display, MOST_ENTRIES);
         read_turns();
         fence();
         call(which, worker, lot, ticket);
         printf(" | %lx %lx %x", floor.workers, floor.buckets, floor.last);
         words_out(board, words);
         records_out();
+        words_out(display, entries);
         check_fence();
         printf("\n");
     }

@@ -1,26 +1,6 @@
-/* Every refusal: the number alone, and everything as it was. Buckets begin at version 9, and some lots are of the second one, since a
-   refused turn must tell nothing of its bucket. */
+/* Every refusal: the number alone, and everything as it was; those of all orders are in orders.c, and each cause of 11 is in display.c.
+   Buckets begin at version 9, and some lots are of the second one, since a refused turn must tell nothing of its bucket. */
 #include "hall.h"
-
-#define REFUSED(number, call)                  \
-    do {                                       \
-        copy_hall(&before, &one);              \
-        CHECK((call) == (number));             \
-        CHECK(same_hall(&one, &before));       \
-    } while (0)
-
-static uint8_t refused_turn(size_t worker) {
-    desk_turn_outcome t = turn(&one, worker);
-    CHECK(same_report(t.report, refused_report));
-    return t.refusal;
-}
-
-static uint8_t refused_run(const uint8_t *turns, size_t count) {
-    desk_run_outcome r = run(&one, turns, count);
-    CHECK(counts(r, 0, 0, 0, 0, r.stop));
-    CHECK(same_report(r.last, no_turn));
-    return r.stop;
-}
 
 static uint8_t refused_show(uint64_t lot) {
     desk_part p = desk_show(one.board, one.words, one.floor, lot);
@@ -34,15 +14,22 @@ static uint8_t refused_count(void) {
     return c.refusal;
 }
 
-static uint8_t refused_orders(size_t depth) {
-    desk_orders_outcome o = orders(&one, depth);
-    CHECK(o.finished == 0 && o.cut == 0 && o.lost == 0 && o.most == 0);
-    return o.refusal;
+static uint8_t refused_total(void) {
+    desk_total_outcome t = total(&one);
+    CHECK(t.total == 0);
+    return t.refusal;
 }
 
-/* 1, where the sizes do not fit together: each call that takes the list, and each that takes the board alone */
+static uint8_t refused_next(size_t from) {
+    desk_next_outcome n = next_occupied(&one, from);
+    CHECK(n.bucket == 0 && !n.found);
+    return n.refusal;
+}
+
+/* 1, where the sizes do not fit together: each call that takes the list, and each that takes none. The index has something to tell. */
 static void all_give_1(bool board_too) {
     uint8_t first = 0;
+    one.index[0] = 3, one.index[1] = 1;
     REFUSED(DESK_WRONG_SIZES, start_look(&one, 0, 7));
     REFUSED(DESK_WRONG_SIZES, start_insert(&one, 0, 7, 1));
     REFUSED(DESK_WRONG_SIZES, start_remove(&one, 0, 7));
@@ -56,15 +43,47 @@ static void all_give_1(bool board_too) {
     if (board_too) {
         REFUSED(DESK_WRONG_SIZES, refused_show(7));
         REFUSED(DESK_WRONG_SIZES, refused_count());
+        REFUSED(DESK_WRONG_SIZES, refused_total());
+        REFUSED(DESK_WRONG_SIZES, refused_next(0));
     } else {
         REFUSED(DESK_DONE, desk_show_refusal(one.board, one.words, one.floor, 7));
         REFUSED(DESK_DONE, desk_count(one.board, one.words, one.floor).refusal);
+        REFUSED(DESK_DONE, total(&one).refusal);
+        REFUSED(DESK_DONE, next_occupied(&one, 0).refusal);
     }
+}
+
+/* §6.1: 1, where the index has not five words: each call that takes it, before all other numbers; those that take none are done */
+static void index_gives_1(size_t entries) {
+    uint8_t first = 0;
+    opened(&one, 2, 2, 9);
+    CHECK(start_insert(&one, 0, 7, 1) == DESK_DONE);
+    one.index[0] = 3, one.index[1] = 1, one.entries = entries;
+    REFUSED(DESK_WRONG_SIZES, open_hall(&one, 2, 2, 0));
+    REFUSED(DESK_WRONG_SIZES, refused_turn(0));
+    REFUSED(DESK_WRONG_SIZES, refused_turn(2));
+    REFUSED(DESK_WRONG_SIZES, refused_run(&first, 1));
+    REFUSED(DESK_WRONG_SIZES, refused_run(NULL, 0));
+    REFUSED(DESK_WRONG_SIZES, refused_run(many, ROOM_FOR_TURNS));
+    REFUSED(DESK_WRONG_SIZES, retire(&one, 0));
+    REFUSED(DESK_WRONG_SIZES, retire(&one, 1));
+    REFUSED(DESK_WRONG_SIZES, refused_total());
+    REFUSED(DESK_WRONG_SIZES, refused_next(0));
+    REFUSED(DESK_WRONG_SIZES, refused_next(SIZE_MAX));
+    REFUSED(DESK_DONE, desk_show_refusal(one.board, one.words, one.floor, 7));
+    REFUSED(DESK_DONE, desk_count(one.board, one.words, one.floor).refusal);
+    CHECK(start_look(&one, 1, 7) == DESK_DONE);
+}
+
+static void test_entries(void) {
+    for (size_t entries = 0; entries <= ROOM_FOR_ENTRIES; entries++)
+        if (entries != DESK_INDEX_WORDS) index_gives_1(entries);
 }
 
 static void test_sizes(void) {
     size_t workers[] = {0, 65, 66, SIZE_MAX}, buckets[] = {0, 257, SIZE_MAX};
     fill(&one);
+    one.entries = DESK_INDEX_WORDS;
     for (unsigned i = 0; i < 4; i++) {
         one.words = 8, one.listed = i < 3 ? workers[i] : 2;
         REFUSED(DESK_WRONG_SIZES, open_hall(&one, workers[i], 1, 0));
@@ -182,111 +201,6 @@ static void test_buckets(void) {
     REFUSED(DESK_BROKEN_BUCKET, refused_count());
 }
 
-/* ---- all orders: 10 by each cause alone and both ends of each range; a broken record of whichever worker; the bucket, also where nobody is
-   busy; and which comes first */
-
-static bool accepted_orders(size_t depth) {
-    return orders(&one, depth).refusal == DESK_DONE;
-}
-
-static void test_small_class(void) {
-    static const size_t no_depth[] = {0, 25, 256, 257, 4294967296u, 4294967297u, SIZE_MAX};
-    for (size_t workers = 1; workers <= 3; workers++) {
-        opened(&one, workers, 1, 9);
-        CHECK(start_look(&one, workers - 1, 7) == DESK_DONE);
-        CHECK(accepted_orders(1) && accepted_orders(24));
-        for (size_t i = 0; i < sizeof no_depth / sizeof no_depth[0]; i++) REFUSED(DESK_NO_SMALL_CLASS, refused_orders(no_depth[i]));
-    }
-    static const size_t too_many_workers[] = {4, 5, 64}, too_many_buckets[] = {2, 3, 256};
-    for (unsigned i = 0; i < 3; i++) {
-        opened(&one, too_many_workers[i], 1, 9);
-        REFUSED(DESK_NO_SMALL_CLASS, refused_orders(1));
-        opened(&one, 1, too_many_buckets[i], 9);
-        REFUSED(DESK_NO_SMALL_CLASS, refused_orders(1));
-        opened(&one, too_many_workers[i], too_many_buckets[i], 9);
-        REFUSED(DESK_NO_SMALL_CLASS, refused_orders(0));
-    }
-}
-
-/* what makes a record broken, one thing in each; the others of the class are sound, or idle */
-static void test_broken_in_class(void) {
-    uint64_t no_mark_word = 3ull << 40;
-    const desk_worker broken[] = {
-        {.kind = 4, .place = 2, .held = 3},
-        {.held = 0},
-        {.held = 3, .seen = 1},
-        {.held = 3, .asleep = 1},
-        {.held = 3, .asleep = UINT32_MAX},
-        {.kind = DESK_LOOK, .place = 1, .held = 3},
-        {.kind = DESK_LOOK, .place = 6, .held = 3},
-        {.kind = DESK_LOOK, .place = 2, .slot = 3, .held = 3},
-        {.kind = DESK_LOOK, .place = 2, .held = 3, .ticket = 1},
-        {.kind = DESK_LOOK, .place = 2, .held = 3, .word = 1},
-        {.kind = DESK_LOOK, .place = 2, .held = 2},
-        {.kind = DESK_INSERT, .place = 11, .held = 2, .ticket = 1},
-        {.kind = DESK_INSERT, .place = 1, .held = 3},
-        {.kind = DESK_INSERT, .place = 6, .held = 0, .ticket = 1},
-        {.kind = DESK_INSERT, .place = 7, .held = 3, .ticket = 1},
-        {.kind = DESK_INSERT, .place = 1, .held = 4, .ticket = 1},
-        {.kind = DESK_INSERT, .place = 1, .held = 3, .ticket = 1, .word = no_mark_word},
-        {.kind = DESK_REMOVE, .place = 10, .held = 3},
-        {.kind = DESK_REMOVE, .place = 14, .held = 3},
-        {.kind = DESK_REMOVE, .place = 13, .held = 3, .ticket = 1},
-        {.kind = DESK_REMOVE, .place = 13, .held = 1},
-        {.kind = DESK_REMOVE, .place = 13, .held = 3, .word = 1ull << 56},
-    };
-    for (size_t i = 0; i < sizeof broken / sizeof broken[0]; i++)
-        for (size_t worker = 0; worker < 3; worker++) {
-            opened(&one, 3, 1, 9);
-            CHECK(start_insert(&one, (worker + 1) % 3, 7, 1) == DESK_DONE && accepted_orders(2));
-            one.records[worker] = broken[i];
-            REFUSED(DESK_BROKEN_RECORD, refused_orders(1));
-        }
-}
-
-static void test_broken_bucket_of_class(void) {
-    static const uint64_t words[] = {3ull << 32, 4ull << 40, 255ull << 48, 1ull << 56, 1ull << 63};
-    opened(&one, 2, 1, 9);
-    for (unsigned busy = 0; busy < 2; busy++) {
-        for (size_t i = 0; i < sizeof words / sizeof words[0]; i++) {
-            one.board[DESK_AT_MARK] = words[i];
-            REFUSED(DESK_BROKEN_BUCKET, refused_orders(24));
-        }
-        one.board[DESK_AT_MARK] = 0x0002010000000009u;
-        one.board[DESK_AT_SPARE] = 1ull << 63;
-        REFUSED(DESK_BROKEN_BUCKET, refused_orders(24));
-        one.board[DESK_AT_SPARE] = 0;
-        CHECK(accepted_orders(24));
-        CHECK(busy > 0 || start_remove(&one, 1, 7) == DESK_DONE);
-    }
-}
-
-/* everything is wrong, and then one thing less after another */
-static void test_order_in_class(void) {
-    opened(&one, 3, 1, 9);
-    one.board[DESK_AT_SPARE] = 1;
-    one.records[2].place = 14;
-    one.listed = 2;
-    REFUSED(DESK_WRONG_SIZES, refused_orders(25));
-    one.listed = 3;
-    REFUSED(DESK_NO_SMALL_CLASS, refused_orders(25));
-    REFUSED(DESK_BROKEN_RECORD, refused_orders(24));
-    one.records[2].place = 0;
-    REFUSED(DESK_BROKEN_BUCKET, refused_orders(24));
-    one.board[DESK_AT_SPARE] = 0;
-    CHECK(accepted_orders(24));
-    /* 10 before 3 and before 7 by each of its other causes, with the rest as it should be */
-    opened(&one, 4, 1, 9);
-    one.records[0].place = 14;
-    REFUSED(DESK_NO_SMALL_CLASS, refused_orders(1));
-    opened(&one, 3, 2, 9);
-    one.records[0].place = 14;
-    REFUSED(DESK_NO_SMALL_CLASS, refused_orders(1));
-    opened(&one, 3, 2, 9);
-    one.board[DESK_AT_SPARE] = 1;
-    REFUSED(DESK_NO_SMALL_CLASS, refused_orders(1));
-}
-
 /* ---- a retiring: each way to break a bucket, where a slot is held and where none is; and which reason comes first */
 
 /* an insert of an odd lot, about to commit, and another that holds nothing; both in the second bucket of two */
@@ -295,6 +209,7 @@ static void opened_with_holder(void) {
     one.board[8] = 0x0000010200000009u;
     one.records[0] = (desk_worker){.key = 5, .word = one.board[8], .ticket = 1, .kind = DESK_INSERT, .place = 9, .held = 0};
     one.records[1] = (desk_worker){.key = 7, .word = one.board[8], .ticket = 2, .kind = DESK_INSERT, .place = 6, .slot = 2, .held = 3};
+    read_anew(&one);
 }
 
 /* whoever holds a slot is not retired while its bucket is broken, and whoever holds none is */
@@ -320,6 +235,7 @@ static void test_broken_under_retiring(void) {
 /* everything is wrong, and then one thing less after another */
 static void test_order_of_retiring(void) {
     opened_with_holder();
+    one.index[0] = 0;
     one.board[8 + DESK_AT_SPARE] = 1;
     one.records[0].slot = 3;
     one.listed = 1;
@@ -331,8 +247,40 @@ static void test_order_of_retiring(void) {
     one.records[0].slot = 0;
     REFUSED(DESK_BROKEN_BUCKET, retire(&one, 0));
     one.board[8 + DESK_AT_SPARE] = 0;
+    REFUSED(DESK_UNTRUE_INDEX, retire(&one, 0));
+    one.index[0] = 1;
     CHECK(retire(&one, 0) == DESK_DONE);
+    one.index[1] = 1; /* and so untrue of either bucket */
     REFUSED(DESK_IDLE_WORKER, retire(&one, 0));
+}
+
+/* a turn by itself and in a run */
+static void both_give(uint8_t number, uint8_t worker) {
+    REFUSED(number, refused_turn(worker));
+    REFUSED(number, refused_run(&worker, 1));
+}
+
+/* the same of a turn, to 11, which comes last (§6.11); worker 1 is idle, and its lot would be of the first bucket */
+static void test_order_of_turns(void) {
+    opened_with_holder();
+    one.records[1] = desk_idle_record();
+    one.index[0] = 0, one.index[1] = 1;
+    one.board[DESK_AT_SPARE] = one.board[8 + DESK_AT_SPARE] = 1;
+    one.records[0].slot = 3;
+    one.listed = 1;
+    both_give(DESK_WRONG_SIZES, 2);
+    REFUSED(DESK_WRONG_SIZES, refused_run(many, ROOM_FOR_TURNS));
+    one.listed = 2;
+    REFUSED(DESK_TOO_LONG, refused_run(many, ROOM_FOR_TURNS));
+    both_give(DESK_NO_WORKER, 2);
+    both_give(DESK_BROKEN_RECORD, 0);
+    one.records[0].slot = 0;
+    both_give(DESK_IDLE_WORKER, 1);
+    both_give(DESK_BROKEN_BUCKET, 0);
+    one.board[8 + DESK_AT_SPARE] = 0;
+    both_give(DESK_UNTRUE_INDEX, 0);
+    one.index[0] = 1, one.index[1] = 3;
+    CHECK(turn(&one, 0).refusal == DESK_DONE);
 }
 
 /* a run whose ninth turn of twenty is refused by `number` has done eight, keeps the report of the eighth and tells that number */
@@ -362,31 +310,41 @@ static void test_stops(void) {
     CHECK(start_look(&one, 2, 4) == DESK_DONE);
     one.board[7] = 1;
     stops(DESK_BROKEN_BUCKET, 2);
+    opened_with_insert();
+    CHECK(start_look(&one, 2, 4) == DESK_DONE);
+    one.index[1] = 1;
+    stops(DESK_UNTRUE_INDEX, 2);
 }
 
-static desk_outcome open_nothing(uint64_t *board, size_t words, desk_worker *records, size_t listed) {
+static desk_outcome open_nothing(uint64_t *board, size_t words, desk_worker *records, size_t listed, uint64_t *index, size_t entries) {
     desk_plan plan = {.workers = listed, .buckets = words / DESK_BUCKET_WORDS, .version = 0};
-    return desk_open_floor(board, words, records, listed, one.floor, plan);
+    return desk_open_floor(board, words, records, listed, index, entries, one.floor, plan);
 }
 
-/* no pointer where there is nothing behind it: an empty run is done, and no board and no list are sizes that do not fit */
+/* no pointer where there is nothing behind it: an empty run is done, and no board, no list and no index are sizes that do not fit */
 static void test_nothing(void) {
     desk_floor none = {0};
     opened(&one, 2, 1, 9);
     REFUSED(DESK_DONE, refused_run(NULL, 0));
-    REFUSED(DESK_WRONG_SIZES, open_nothing(NULL, 0, one.records, 2).refusal);
-    REFUSED(DESK_WRONG_SIZES, open_nothing(one.board, 8, NULL, 0).refusal);
-    REFUSED(DESK_WRONG_SIZES, open_nothing(NULL, 0, NULL, 0).refusal);
+    REFUSED(DESK_WRONG_SIZES, open_nothing(NULL, 0, one.records, 2, one.index, 5).refusal);
+    REFUSED(DESK_WRONG_SIZES, open_nothing(one.board, 8, NULL, 0, one.index, 5).refusal);
+    REFUSED(DESK_WRONG_SIZES, open_nothing(one.board, 8, one.records, 2, NULL, 0).refusal);
+    REFUSED(DESK_WRONG_SIZES, open_nothing(NULL, 0, NULL, 0, NULL, 0).refusal);
     CHECK(desk_start_look(NULL, 0, NULL, 0, none, 0, 7).refusal == DESK_WRONG_SIZES);
-    desk_turn_outcome t = desk_turn(NULL, 0, NULL, 0, none, 0);
+    desk_turn_outcome t = desk_turn(NULL, 0, NULL, 0, NULL, 0, none, 0);
     CHECK(t.refusal == DESK_WRONG_SIZES && same_report(t.report, refused_report));
-    desk_run_outcome r = desk_run(NULL, 0, NULL, 0, none, NULL, 0);
+    desk_run_outcome r = desk_run(NULL, 0, NULL, 0, NULL, 0, none, NULL, 0);
     CHECK(r.stop == DESK_WRONG_SIZES && same_report(r.last, no_turn));
     CHECK(desk_show_refusal(NULL, 0, none, 7) == DESK_WRONG_SIZES);
     CHECK(desk_count(NULL, 0, none).refusal == DESK_WRONG_SIZES);
-    CHECK(desk_retire(NULL, 0, NULL, 0, none, 0) == DESK_WRONG_SIZES);
-    CHECK(desk_retire(one.board, 8, NULL, 0, one.floor, 0) == DESK_WRONG_SIZES);
-    CHECK(desk_retire(NULL, 0, one.records, 2, one.floor, 0) == DESK_WRONG_SIZES);
+    CHECK(desk_retire(NULL, 0, NULL, 0, NULL, 0, none, 0) == DESK_WRONG_SIZES);
+    CHECK(desk_retire(one.board, 8, NULL, 0, one.index, 5, one.floor, 0) == DESK_WRONG_SIZES);
+    CHECK(desk_retire(NULL, 0, one.records, 2, one.index, 5, one.floor, 0) == DESK_WRONG_SIZES);
+    CHECK(desk_retire(one.board, 8, one.records, 2, NULL, 0, one.floor, 0) == DESK_WRONG_SIZES);
+    CHECK(desk_total(NULL, 0, NULL, 0, none).refusal == DESK_WRONG_SIZES);
+    CHECK(desk_total(one.board, 8, NULL, 0, one.floor).refusal == DESK_WRONG_SIZES);
+    CHECK(desk_next_occupied(NULL, 0, one.index, 5, one.floor, 0).refusal == DESK_WRONG_SIZES);
+    CHECK(desk_next_occupied(one.board, 8, NULL, 0, one.floor, 0).refusal == DESK_WRONG_SIZES);
     CHECK(desk_orders(NULL, 0, NULL, 0, none, 1).refusal == DESK_WRONG_SIZES);
     CHECK(desk_orders(NULL, 0, one.records, 2, one.floor, 1).refusal == DESK_WRONG_SIZES);
     CHECK(desk_orders(one.board, 8, NULL, 0, one.floor, 1).refusal == DESK_WRONG_SIZES);
@@ -394,16 +352,14 @@ static void test_nothing(void) {
 
 void test_refusals(void) {
     test_sizes();
+    test_entries();
     test_workers();
     test_records();
     test_calls();
     test_buckets();
-    test_small_class();
-    test_broken_in_class();
-    test_broken_bucket_of_class();
-    test_order_in_class();
     test_broken_under_retiring();
     test_order_of_retiring();
+    test_order_of_turns();
     test_stops();
     test_nothing();
 }

@@ -44,6 +44,7 @@ static void set_up(hall *h) {
     opened(h, 64, 256, 3);
     h->board[8 * 254] = went_round.before;
     h->board[8 * 255] = closed.before;
+    read_anew(h);
 }
 
 static void test_fields_of_turns(void) {
@@ -105,8 +106,8 @@ static void test_giving_back(void) {
 
 /* ---- turns in no order and retirings between them, on an opened board: the reports of a bucket are a chain, in which a retiring with a
    held slot has its place though it reports nothing; the two words differ after a change and after nothing else, whether a swap wins can be
-   told from the words, and a swap is never lost to a change of its own worker; and who is busy has slept through the turns since its start
-   or its last one (§20.1) */
+   told from the words, and a swap is never lost to a change of its own worker; who is busy has slept through the turns since its start or
+   its last one (§20.1); and the index stays true (§21.2) */
 
 enum { WORKERS = 6, BUCKETS = 3, LOTS = 9, TURNS = 20000, FIRST_VERSION = 7 };
 
@@ -119,15 +120,6 @@ typedef struct {
     uint32_t woke[WORKERS];   /* how many of these had been at the worker's start, or with its last turn */
     unsigned won, lost, lost_to_retiring, full, given_back, retired, freed_slots;
 } account;
-
-/* numbers that look random and are the same each time (Steele, Lea and Flood's SplitMix) */
-static size_t below(size_t bound) {
-    static uint64_t state = 1;
-    uint64_t z = state += 0x9e3779b97f4a7c15u;
-    z = (z ^ z >> 30) * 0xbf58476d1ce4e5b9u;
-    z = (z ^ z >> 27) * 0x94d049bb133111ebu;
-    return (z ^ z >> 31) % bound;
-}
 
 static uint8_t start_any(hall *h, size_t worker) {
     uint64_t lot = below(LOTS);
@@ -178,7 +170,7 @@ static void retire_any(account *a) {
     if (one.records[worker].kind == DESK_IDLE) return;
     bool held = one.records[worker].held != DESK_NO_SLOT;
     size_t bucket = desk_bucket(one.records[worker].key, BUCKETS);
-    CHECK(retire(&one, worker) == DESK_DONE && sleeps_on(a));
+    CHECK(retire(&one, worker) == DESK_DONE && sleeps_on(a) && is_true(&one));
     uint64_t word = one.board[DESK_BUCKET_WORDS * bucket];
     CHECK((word != a->word[bucket]) == held);
     a->word[bucket] = word;
@@ -205,7 +197,7 @@ static void test_any_order(void) {
         uint8_t place = one.records[worker].place;
         desk_turn_outcome t = turn(&one, worker);
         a.woke[worker] = ++a.turns;
-        CHECK(t.refusal == DESK_DONE && t.report.bucket < BUCKETS && sleeps_on(&a));
+        CHECK(t.refusal == DESK_DONE && t.report.bucket < BUCKETS && sleeps_on(&a) && is_true(&one));
         if (t.report.bucket < BUCKETS) account_for(&a, t.report, worker, place);
     }
     CHECK(a.won > 0 && a.lost > 0 && a.full > 0 && a.given_back > 0);

@@ -78,6 +78,7 @@ static void test_every_record(void) {
                     if (!may_stand(kind, place) || !may_hold(kind, place, held)) continue;
                     opened(&one, 3, 2, 9);
                     one.board[8] = 0x0001020200000007u, one.board[9] = 5, one.board[12] = 3;
+                    read_anew(&one);
                     one.records[1] = record(kind, place, held, slot);
                     one.records[2] = one.records[1];
                     CHECK(retire(&one, 1) == DESK_DONE);
@@ -92,6 +93,7 @@ static void test_every_word(void) {
             for (uint8_t held = 0; held < DESK_SLOTS; held++) {
                 opened(&one, 1, 1, versions[i]);
                 one.board[0] |= (uint64_t)(marks % 3) << 32 | (uint64_t)(marks / 3 % 3) << 40 | (uint64_t)(marks / 9) << 48;
+                read_anew(&one);
                 one.records[0] = record(DESK_INSERT, 9, held, 0);
                 CHECK(retire(&one, 0) == DESK_DONE);
                 CHECK(desk_mark(one.board[0], held) == DESK_MARK_EMPTY && desk_version(one.board[0]) == (uint32_t)(versions[i] + 1));

@@ -13,7 +13,7 @@ use Rattle.turn.specs.declared.Progress.the-variants.{GoesOn, Ended}
 use Rattle.turn.specs.Worker.{mayStand}
 use Rattle.history.specs.Trace.{Turn, Retiring, Entry, acted, retired, who, wasOf, By, OwnEnd, None}
 use Rattle.history.specs.InCall.{AtRest}
-use Rattle.history.specs.History.{State, Opening, Call, look, insert, remove, turn, retire, run, show, count, orders, opened, recordOf}
+use Rattle.history.specs.History.{State, Opening, Call, look, insert, remove, turn, retire, run, show, count, orders, askTotal, askNext, opened, recordOf}
 use Rattle.history.specs.History.{after, entries, stateFrom, traceFrom, state, trace}
 use Rattle.history.proofs.View.{each-worker}
 use Rattle.history.proofs.States.{view}
@@ -280,6 +280,8 @@ module _ (o : Opening) where
     call-traced (show lot) = rw (append-nil (trace o calls)) (traced-then calls (show lot) old)
     call-traced count = rw (append-nil (trace o calls)) (traced-then calls count old)
     call-traced (orders depth) = rw (append-nil (trace o calls)) (traced-then calls (orders depth) old)
+    call-traced askTotal = rw (append-nil (trace o calls)) (traced-then calls askTotal old)
+    call-traced (askNext from) = rw (append-nil (trace o calls)) (traced-then calls (askNext from) old)
 
   -- ---- histories
 

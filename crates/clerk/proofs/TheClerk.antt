@@ -8,8 +8,11 @@ use native.Mathlib.Nat.{mod-lt}
 use native.Mathlib.Omega.{arith}
 use lib.ListN.{length, take, length-append}
 use lib.Seq.{take-append-le}
+use Rattle.engine.specs.declared.Counted.{Counted}
+use Rattle.engine.specs.declared.Counted.the-variants.{Refusal, Lots}
 use Rattle.engine.specs.Board.{bucketOf}
-use Rattle.engine.specs.declared.Counted.the-variants.{Lots}
+use Rattle.engine.specs.Calls.{countCall}
+use Rattle.hall.specs.declared.Totalled.the-variants.{Slots}
 use Rattle.history.specs.Trace.{Entry, acted, retired}
 use Rattle.history.specs.History.{State, Opening, Call, retire, opened, recordOf, state, trace}
 use Rattle.history.proofs.Histories.{traceFrom-then}
@@ -19,6 +22,7 @@ use Rattle.history.specs.Openings.{historyOf}
 use Rattle.history.specs.Values.{valueAt, tickets}
 use Rattle.history.specs.Cells.{cellsAt, markAt, keyAt, home}
 use Rattle.history.proofs.Lots.{count-tells}
+use Rattle.history.proofs.Display.{displays}
 use Rattle.history.proofs.Cells.{marked-few}
 use Rattle.clerk.specs.Does.{Line, Asked, does, TellsChange}
 use Rattle.clerk.specs.Calls.{EndedCall, IsCallOf, IsMomentOf, HasMoments, Settles, listAfter}
@@ -39,6 +43,11 @@ use Rattle.clerk.proofs.Paired.{one-start, one-call, not-ended, never-d
 use Rattle.clerk.proofs.ListAfter.{list-quiet}
 use Rattle.clerk.proofs.Arranged.{sequenceOf}
 use Rattle.clerk.proofs.OneByOne.{one-by-one}
+
+-- the lots that a count tells
+abbrev lotsIn : Counted → ℕ
+lotsIn (Refusal number) = 0
+lotsIn (Lots lots) = lots
 
 module _ (o : Opening) (calls : List Call) where
   abbrev n : ℕ
@@ -159,6 +168,9 @@ module _ (o : Opening) (calls : List Call) where
   pub in-sequence : OneByOne turns (sequenceOf turns)
   in-sequence = one-by-one turns moments
 
+  counted : countCall (state o calls .board) (state o calls .floor) ≡ Lots (length (listAfter (trace o calls)))
+  counted = count-tells o calls .told ∙ ap Lots (omega (arith, standing .lists .long))
+
   -- the whole board is one clerk
   pub the-clerk : Clerk o calls
   the-clerk =
@@ -169,8 +181,8 @@ module _ (o : Opening) (calls : List Call) where
         ticketed = λ l inside.
             let shows = standing .lists .there l inside in
             rw (← shows .value) (standing .known .cells .valid (bucketOf (l .lot) n) (shows .slot) (shows .has .0) .ticket);
-        counted =
-            count-tells o calls .told ∙ ap Lots (omega (arith, standing .lists .long));
+        counted = counted;
+        totalled = displays o calls .total ∙ ap (λ (c : Counted). Slots (lotsIn c)) (sym (displays o calls .counted) ∙ counted);
         shown = λ l. (λ inside. shown-slots o calls l .0 (the-list l .0 inside), λ found. the-list l .1 (shown-slots o calls l .1 found));
         held = λ b p. (state-held o calls b p, λ some. held-two b p (some .0) (some .2));
         held-once = held-once;

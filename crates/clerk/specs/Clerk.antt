@@ -12,6 +12,8 @@ use Rattle.turn.specs.Bucket.{cell, markCell, keyCell, valueCell}
 use Rattle.engine.specs.Board.{bucketAt}
 use Rattle.engine.specs.Calls.{showCall, countCall}
 use Rattle.engine.specs.declared.Counted.the-variants.{Lots}
+use Rattle.hall.specs.declared.Totalled.the-variants.{Slots}
+use Rattle.hall.specs.Calls.{totalCall}
 use Rattle.history.specs.Trace.{Retiring, Entry, retired, By, OwnEnd, None}
 use Rattle.history.specs.History.{State, Opening, Call, Ticket, retire, recordOf, begins, state, trace, workersOf}
 use Rattle.history.specs.History as History
@@ -127,6 +129,8 @@ pub record Clerk (o : Opening) (calls : List Call) : Type 0 where
   pub ticketed : (l : Line) → In l (listAfter (trace o calls)) → 1 ≤ l .ticket
   -- §17.4: a count tells how long the list is
   pub counted : countCall (state o calls .board) (state o calls .floor) ≡ Lots (length (listAfter (trace o calls)))
+  -- §17.4, §21.3: and so does the display's total
+  pub totalled : totalCall (state o calls .board) (state o calls .index) (state o calls .floor) ≡ Slots (length (listAfter (trace o calls)))
   -- §17.4: the bucket that is shown for a lot tells whether the lot is in the list, and with which ticket
   pub shown :
       (l : Line)

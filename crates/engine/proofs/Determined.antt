@@ -16,8 +16,9 @@ use Rattle.engine.specs.declared.Seat.{Seat}
 use Rattle.engine.specs.declared.Laid.{Laid}
 use Rattle.engine.specs.declared.Started.{Started}
 use Rattle.engine.specs.declared.Totals.{Totals}
+use Rattle.engine.specs.declared.Touched.{Touched}
 use Rattle.engine.specs.declared.Counted.{Counted}
-use Rattle.engine.specs.Promises.{BlankMade, FloorLaid, StartDone, TurnTried, WorkerRetired, NoneCounted, TurnCounted, RunTested, ShowTested, ShowPlaced, Shown, CountDone}
+use Rattle.engine.specs.Promises.{BlankMade, FloorLaid, StartDone, TurnTried, TurnTested, WorkerRetired, RetireTested, BucketTouched, NoneCounted, TurnCounted, RunTested, ShowTested, ShowPlaced, Shown, CountDone}
 
 -- the blank record
 pub blank-determined : (r t : Worker) → BlankMade r → BlankMade t → r ≡ t
@@ -47,6 +48,10 @@ pub turn-determined :
     → (b ≡ c) × (r ≡ t)
 turn-determined board s w b c r t p q = one-outcome (p .whole) (q .whole)
 
+-- the number of refusal of a turn
+pub turn-refusal-determined : (board : List ℕ) (s : Seat) (w : Worker) (r t : ℕ) → TurnTested board s w r → TurnTested board s w t → r ≡ t
+turn-refusal-determined board s w r t p q = one-answer (p .whole) (q .whole)
+
 -- a retiring: the board, and what is handed back
 pub retire-determined :
     (board : List ℕ) (s : Seat) (w : Worker) (b c : List ℕ) (r t : Retired)
@@ -54,6 +59,14 @@ pub retire-determined :
     → WorkerRetired board s w c t
     → (b ≡ c) × (r ≡ t)
 retire-determined board s w b c r t p q = one-outcome (p .whole) (q .whole)
+
+-- the number of refusal of a retiring
+pub retire-refusal-determined : (board : List ℕ) (s : Seat) (w : Worker) (r t : ℕ) → RetireTested board s w r → RetireTested board s w t → r ≡ t
+retire-refusal-determined board s w r t p q = one-answer (p .whole) (q .whole)
+
+-- the bucket of a lot, and its mark word
+pub touched-determined : (board : List ℕ) (f : Floor) (lot : ℕ) (r t : Touched) → BucketTouched board f lot r → BucketTouched board f lot t → r ≡ t
+touched-determined board f lot r t p q = one-answer (p .whole) (q .whole)
 
 -- the totals before the first turn
 pub nothing-determined : (r t : Totals) → NoneCounted r → NoneCounted t → r ≡ t

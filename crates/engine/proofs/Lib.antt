@@ -10,6 +10,7 @@ pub mod Parts
 pub mod Refused
 pub mod Reports
 pub mod Retiring
+pub mod Seats
 pub mod Sizes
 pub mod Sleeping
 pub mod Stops

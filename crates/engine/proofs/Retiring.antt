@@ -66,8 +66,14 @@ module _ (f : Floor) (board : List ℕ) (w : Worker) where
       ∙ ap (onBoard board (own f w)) (e ∙ ap (λ (l : List ℕ). retireOn l w) (part-at board at (own f w) is))
       ∙ retire-on-board
 
+-- a retiring that is refused by a number, as the code has it
+pub refused-retired :
+    (n : ℕ) (f : Floor) (board : List ℕ) (w : Worker) (r : Retired) → eqb n 0 ≡ false → r ≡ notRetired n w → after board r ≡ retired n f board w
+unfolding retired
+refused-retired n f board w r some is = rw (some, is)
+
 -- a retiring hands back the number of its tests
-retired-number : (number : ℕ) (f : Floor) (board : List ℕ) (w : Worker) → retired number f board w .handed .refusal ≡ number
+pub retired-number : (number : ℕ) (f : Floor) (board : List ℕ) (w : Worker) → retired number f board w .handed .refusal ≡ number
 unfolding retired
 retired-number number f board w =
     by-cases (λ (x : After Retired). x .handed .refusal ≡ number) (eqb number 0) _ _ (λ is. sym (eqb-true number 0 is)) (λ isnot. refl)

@@ -5,7 +5,7 @@ use mathlib.Core.Path.{_≡_, refl}
 use mathlib.Core.List.{List}
 use lib.ListN.{length}
 use borrow.Author.Tests.{eqb-true, eq-eqb, leb-true, le-leb, not-false}
-use Rattle.mark.proofs.Choices.{passes, not-both}
+use Rattle.mark.proofs.Choices.{none-holds, denied, passes, not-both}
 use Rattle.engine.specs.declared.Floor.{Floor}
 use Rattle.engine.specs.Refusals.{wrongFloor, wrongSizes, openNumber, showNumber}
 use Rattle.engine.specs.Room.{Right}
@@ -41,19 +41,22 @@ pub right-listed : (f : Floor) (board : List ℕ) (listed : ℕ) → wrongSizes 
 unfolding wrongSizes wrongFloor
 right-listed f board listed is = eqb-true _ _ (not-false _ (both-fail (wrongFloor f board) _ is .1))
 
--- where floor and board fit together and there is a record for each worker, the test lets them through
-pub sizes-right : (f : Floor) (board : List ℕ) (listed : ℕ) → Right f board → listed ≡ f .workers → wrongSizes f board listed ≡ false
-unfolding wrongSizes
-sizes-right f board listed fits is =
+-- where floor and board fit together, the test lets them through
+pub floor-right : (f : Floor) (board : List ℕ) → Right f board → wrongFloor f board ≡ false
+unfolding wrongFloor
+floor-right f board fits =
     rw (
-      is,
       le-leb 1 (f .workers) (fits .some-worker),
       le-leb (f .workers) 64 (fits .workers),
       le-leb 1 (f .buckets) (fits .some-bucket),
       le-leb (f .buckets) 256 (fits .buckets),
       eq-eqb (length board) (8 * f .buckets) (fits .words),
-      eq-eqb (f .workers) (f .workers) refl,
     ) refl
+
+-- and where there is a record for each worker, so does that of the list
+pub sizes-right : (f : Floor) (board : List ℕ) (listed : ℕ) → Right f board → listed ≡ f .workers → wrongSizes f board listed ≡ false
+unfolding wrongSizes wrongFloor
+sizes-right f board listed fits is = none-holds _ _ (floor-right f board fits) (denied _ (eq-eqb listed (f .workers) is))
 
 -- so an opening of those sizes is accepted
 pub opens-right : (f : Floor) (board : List ℕ) (listed : ℕ) → Right f board → listed ≡ f .workers → openNumber f board listed ≡ 0

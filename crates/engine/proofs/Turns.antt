@@ -60,6 +60,12 @@ module _ (f : Floor) (board : List ℕ) (w : Worker) where
       ∙ ap (λ n. tryTurn n bucket w) is)
       ∙ try-on-board
 
+-- a turn that is refused by a number, as the code has it
+pub refused-tried :
+    (n : ℕ) (f : Floor) (board : List ℕ) (w : Worker) (r : Tried) → eqb n 0 ≡ false → r ≡ refused n w → after board r ≡ tried n f board w
+unfolding tried
+refused-tried n f board w r some is = rw (some, is)
+
 -- a turn that was tried, with its answer
 abbrev pub answering : After Tried → After Turned
 answering x = after (x .words) (answered (x .handed))

@@ -10,6 +10,7 @@ use Rattle.turn.specs.declared.Action.{Action}
 use Rattle.turn.specs.declared.Action.the-variants.{Read, Store, Won, Lost}
 use Rattle.turn.specs.declared.Report.{Report}
 use Rattle.turn.specs.Worker.{freePlace, idle, lookFor, insertOf, removeOf}
+use Rattle.turn.specs.Bucket.{cell, markCell}
 use Rattle.turn.specs.Asleep.{capped, awake, slept}
 use Rattle.turn.specs.Places.{Step, turn}
 use Rattle.turn.specs.declared.Tried.{Tried}
@@ -23,10 +24,11 @@ use Rattle.engine.specs.declared.Seat.{Seat}
 use Rattle.engine.specs.declared.Laid.{Laid}
 use Rattle.engine.specs.declared.Started.{Started}
 use Rattle.engine.specs.declared.Totals.{Totals}
+use Rattle.engine.specs.declared.Touched.{Touched}
 use Rattle.engine.specs.declared.Counted.{Counted}
 use Rattle.engine.specs.declared.Counted.the-variants.{Refusal, Lots}
 use Rattle.engine.specs.Board.{bucketOf, withBucket, openedBoard, lotsOn}
-use Rattle.engine.specs.Refusals.{spent, bucketFor, openNumber, startNumber, eachNumber, turnNumber, retireNumber, runNumber, showNumber, countNumber}
+use Rattle.engine.specs.Refusals.{wrongFloor, spent, bucketFor, openNumber, startNumber, eachNumber, turnNumber, retireNumber, runNumber, showNumber, countNumber}
 
 -- ---- open
 
@@ -40,19 +42,25 @@ pub record Opened : Type 0 where
 abbrev pub planned : Plan → Floor
 planned p = record { workers = p .workers; buckets = p .buckets; last = 0 }
 
+-- §2.10, §7.1: what an opening with this number of refusal, or 0, comes to
+abbrev pub openedBy : ℕ → List ℕ → Floor → List Worker → Plan → After Opened
+openedBy number board f records p =
+    cond (eqb number 0)
+    (after (openedBoard (p .buckets) (p .version)) (record { refusal = 0; floor = planned p; records = replicate (length records) idle }))
+    (after board (record { refusal = number; floor = f; records = records }))
+
 -- §2.10: an opening
 unfoldable pub openCall : List ℕ → Floor → List Worker → ℕ → Plan → After Opened
-openCall board f records listed p =
-    cond (eqb (openNumber (planned p) board listed) 0)
-    (after (openedBoard (p .buckets) (p .version)) (record { refusal = 0; floor = planned p; records = replicate (length records) idle }))
-    (after board (record { refusal = openNumber (planned p) board listed; floor = f; records = records }))
+openCall board f records listed p = openedBy (openNumber (planned p) board listed) board f records p
 
 -- an opening as far as it concerns no record: of the list it says how many become idle
-abbrev pub layCall : List ℕ → Floor → ℕ → Plan → After Laid
-layCall board f listed p =
-    let x = openCall board f [] listed p in
+abbrev pub laidBy : ℕ → After Opened → After Laid
+laidBy listed x =
     let number = x .handed .refusal in
     after (x .words) (record { floor = x .handed .floor; idle = cond (eqb number 0) listed 0; refusal = number })
+
+abbrev pub layCall : List ℕ → Floor → ℕ → Plan → After Laid
+layCall board f listed p = laidBy listed (openCall board f [] listed p)
 
 -- ---- start
 
@@ -126,6 +134,14 @@ retired number f board w = cond (eqb number 0) (after (vacatedOn f board w) isRe
 -- §19.1: retiring a worker
 unfoldable pub retireCall : List ℕ → Seat → Worker → After Retired
 retireCall board s w = retired (retireNumber (s .floor) board (s .listed) (s .worker) w) (s .floor) board w
+
+-- ---- the bucket that is touched
+
+-- §2.4: the bucket of a lot, and the mark word in it; 0 and 0 where the size of the board is wrong
+abbrev pub touchedBy : List ℕ → Floor → ℕ → Touched
+touchedBy board f lot =
+    cond (wrongFloor f board) (record { bucket = 0; word = 0 })
+    (record { bucket = bucketOf lot (f .buckets); word = cell (bucketFor f board lot) markCell })
 
 -- ---- run
 

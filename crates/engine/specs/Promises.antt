@@ -14,9 +14,10 @@ use Rattle.engine.specs.declared.Seat.{Seat}
 use Rattle.engine.specs.declared.Laid.{Laid}
 use Rattle.engine.specs.declared.Started.{Started}
 use Rattle.engine.specs.declared.Totals.{Totals}
+use Rattle.engine.specs.declared.Touched.{Touched}
 use Rattle.engine.specs.declared.Counted.{Counted}
-use Rattle.engine.specs.Refusals.{retireNumber, runRefusal, showNumber, countNumber}
-use Rattle.engine.specs.Calls.{blank, layCall, tryCall, retireCall, noTurns, tallied, cappedTotals, showCall, showStart, wordsOn, countCall, countedNumber}
+use Rattle.engine.specs.Refusals.{turnNumber, retireNumber, runRefusal, showNumber, countNumber}
+use Rattle.engine.specs.Calls.{blank, layCall, tryCall, retireCall, touchedBy, noTurns, tallied, cappedTotals, showCall, showStart, wordsOn, countCall, countedNumber}
 
 -- what stands for a record past the end of a list
 pub record BlankMade (r : Worker) : Type 0 where
@@ -35,10 +36,22 @@ pub record StartDone {B : Type 0} (start : List ℕ → Seat → Worker → B �
 pub record TurnTried (board : List ℕ) (s : Seat) (w : Worker) (board′ : List ℕ) (r : Tried) : Type 0 where
   pub whole : after board′ r ≡ tryCall board s w
 
+-- whether a turn is refused: the number, or 0
+pub record TurnTested (board : List ℕ) (s : Seat) (w : Worker) (r : ℕ) : Type 0 where
+  pub whole : r ≡ turnNumber (s .floor) board (s .listed) (s .worker) w
+
 -- a retiring: the board before and after, and what is handed back
 pub record WorkerRetired (board : List ℕ) (s : Seat) (w : Worker) (board′ : List ℕ) (r : Retired) : Type 0 where
   pub whole : after board′ r ≡ retireCall board s w
   pub number : r .refusal ≡ retireNumber (s .floor) board (s .listed) (s .worker) w
+
+-- whether a retiring is refused: the number, or 0
+pub record RetireTested (board : List ℕ) (s : Seat) (w : Worker) (r : ℕ) : Type 0 where
+  pub whole : r ≡ retireNumber (s .floor) board (s .listed) (s .worker) w
+
+-- the bucket of a lot, and its mark word
+pub record BucketTouched (board : List ℕ) (f : Floor) (lot : ℕ) (r : Touched) : Type 0 where
+  pub whole : r ≡ touchedBy board f lot
 
 -- no turn is counted yet
 pub record NoneCounted (r : Totals) : Type 0 where

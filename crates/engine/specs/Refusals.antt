@@ -32,6 +32,10 @@ wrongSizes f board listed = wrongListed f (length board) listed
 abbrev pub noWorker : Floor → ℕ → Bool
 noWorker f i = leb (f .workers) i
 
+-- §6.1, §6.2: 1 for sizes that are wrong, 2 where there is no such worker, or 0
+unfoldable pub seatNumber : Floor → ℕ → ℕ → ℕ → ℕ
+seatNumber f words listed i = cond (wrongListed f words listed) 1 (cond (noWorker f i) 2 0)
+
 -- §3.5, §6.5: a ticket that is not above the last
 abbrev pub spent : Floor → ℕ → Bool
 spent f ticket = leb ticket (f .last)

@@ -1,9 +1,9 @@
 // The calls of the desk on a lent board, with one record by value.
 ghost use mathlib.Core.Path.{_≡_};
 ghost use mathlib.Core.Bool.{cond};
-ghost use Rattle.engine.specs.Refusals.{recordNumber, startRefusal};
+ghost use Rattle.engine.specs.Refusals.{seatNumber, recordNumber, startRefusal};
 ghost use Rattle.engine.specs.Calls.{startMade, lookCall, insertCall, removeCall};
-ghost use Rattle.engine.specs.Promises.{BlankMade, FloorLaid, StartDone, TurnTried, WorkerRetired, RunTested, Shown, ShowPlaced, ShowTested, CountDone};
+ghost use Rattle.engine.specs.Promises.{BlankMade, FloorLaid, StartDone, TurnTried, TurnTested, WorkerRetired, RetireTested, BucketTouched, RunTested, Shown, ShowPlaced, ShowTested, CountDone};
 use turn::Retired;
 use turn::Tried;
 use turn::Worker;
@@ -70,6 +70,12 @@ pub struct Totals {
     pub full: u32,
 }
 
+// The bucket of a lot, and the mark word that stands in it.
+pub struct Touched {
+    pub word: u64,
+    pub bucket: usize,
+}
+
 // §2.9, §14.9: what a count answers.
 pub enum Counted {
     Refusal(u8),
@@ -103,7 +109,7 @@ pub fn open_floor(board: &mut [u64], floor: Floor, listed: usize, plan: Plan) ->
         buckets: plan.buckets,
         last: 0,
     };
-    if size::are_wrong(board, opened, listed) {
+    if size::are_wrong(opened, board.len(), listed) {
         return Laid {
             floor,
             idle: 0,
@@ -165,7 +171,7 @@ fn start_refusal(
 ) -> u8
     ensures { λ r. ⌜ r ≡ startRefusal floor words listed worker w late ⌝ }
 {
-    if size::words_are_wrong(floor, words, listed) {
+    if size::are_wrong(floor, words, listed) {
         return refusal::WRONG_SIZES;
     }
     if floor.workers <= worker {
@@ -215,18 +221,41 @@ fn start(refusal: u8, floor: Floor, w: Worker, new: Worker, after: Floor) -> Sta
     }
 }
 
+// §6.1, §6.2: the number that the sizes or the worker's own number give, or 0. A start has these tests in its own: each is one jump there.
+fn seat_refusal(floor: Floor, words: usize, listed: usize, worker: usize) -> u8
+    ensures { λ r. ⌜ r ≡ seatNumber floor words listed worker ⌝ }
+{
+    if size::are_wrong(floor, words, listed) {
+        return refusal::WRONG_SIZES;
+    }
+    if floor.workers <= worker {
+        return refusal::NO_WORKER;
+    }
+    0
+}
+
 // §4.1, §7.2: one turn of one worker, given its record.
 pub fn try_turn(board: &mut [u64], seat: Seat, w: Worker) -> Tried
     ensures { λ r. ⌜ TurnTried (now (board .entry)) seat w (now (board .exit)) r ⌝ }
 {
     let floor = seat.floor;
-    if size::are_wrong(board, floor, seat.listed) {
-        return turn::refused(refusal::WRONG_SIZES, w);
-    }
-    if floor.workers <= seat.worker {
-        return turn::refused(refusal::NO_WORKER, w);
+    let refusal = seat_refusal(floor, board.len(), seat.listed, seat.worker);
+    if refusal != 0 {
+        return turn::refused(refusal, w);
     }
     take::turn(board, floor, w)
+}
+
+// §7.2: the number of refusal of a turn on the same arguments, or 0.
+pub fn turn_refusal(board: &[u64], seat: Seat, w: Worker) -> u8
+    ensures { λ r. ⌜ TurnTested (now (board .entry)) seat w r ⌝ }
+{
+    let floor = seat.floor;
+    let refusal = seat_refusal(floor, board.len(), seat.listed, seat.worker);
+    if refusal != 0 {
+        return refusal;
+    }
+    take::turn_refusal(board, floor, w)
 }
 
 // §19.1, §7.2: retires one worker, given its record.
@@ -234,20 +263,44 @@ pub fn retire(board: &mut [u64], seat: Seat, w: Worker) -> Retired
     ensures { λ r. ⌜ WorkerRetired (now (board .entry)) seat w (now (board .exit)) r ⌝ }
 {
     let floor = seat.floor;
-    if size::are_wrong(board, floor, seat.listed) {
-        return retire::refused(refusal::WRONG_SIZES, w);
-    }
-    if floor.workers <= seat.worker {
-        return retire::refused(refusal::NO_WORKER, w);
+    let refusal = seat_refusal(floor, board.len(), seat.listed, seat.worker);
+    if refusal != 0 {
+        return retire::refused(refusal, w);
     }
     take::retired(board, floor, w)
+}
+
+// §7.2: the number of refusal of a retiring on the same arguments, or 0.
+pub fn retire_refusal(board: &[u64], seat: Seat, w: Worker) -> u8
+    ensures { λ r. ⌜ RetireTested (now (board .entry)) seat w r ⌝ }
+{
+    let floor = seat.floor;
+    let refusal = seat_refusal(floor, board.len(), seat.listed, seat.worker);
+    if refusal != 0 {
+        return refusal;
+    }
+    take::retire_refusal(board, floor, w)
+}
+
+// §2.4: the bucket that a turn or a retiring with this lot is about, and its mark word; 0 and 0 where the size of the board is wrong.
+pub fn touched_by(board: &[u64], floor: Floor, lot: u64) -> Touched
+    ensures { λ r. ⌜ BucketTouched (now (board .entry)) floor lot r ⌝ }
+{
+    if size::is_wrong(board, floor) {
+        return Touched { word: 0, bucket: 0 };
+    }
+    let bucket = lots::bucket_of(lot, floor.buckets);
+    Touched {
+        word: board[8 * bucket],
+        bucket,
+    }
 }
 
 // §7.2: the number that refuses a run as a whole, or 0: of a board of so many words, a list of so many records, and so many turns.
 pub fn run_refusal(floor: Floor, words: usize, listed: usize, count: usize) -> u8
     ensures { λ r. ⌜ RunTested floor words listed count r ⌝ }
 {
-    if size::words_are_wrong(floor, words, listed) {
+    if size::are_wrong(floor, words, listed) {
         return refusal::WRONG_SIZES;
     }
     if 65535 < count {

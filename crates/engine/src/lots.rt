@@ -1,9 +1,8 @@
 // The buckets of the board, and the lots in them.
 ghost use mathlib.Core.Path.{_≡_};
 ghost use mathlib.Core.Bool.{cond};
-ghost use Prim.Native.Nat.{_+_, _*_, _≤_, _<_};
+ghost use Prim.Native.Nat.{_+_, _*_, _≤_};
 ghost use lib.ListN.{length};
-ghost use Rattle.mark.specs.Word.{isMark, countMarks};
 ghost use Rattle.turn.specs.Bucket.{brokenBucket};
 ghost use Rattle.engine.specs.Board.{bucketOf, lotsOn, anyBroken};
 ghost use Rattle.engine.specs.Refusals.{bucketFor};
@@ -39,26 +38,6 @@ pub fn is_broken(board: &[u64], floor: Floor, lot: u64) -> bool
     bucket::is_broken(&board[at..at + 8])
 }
 
-// §2.9: what a slot with this mark counts for.
-fn one_if_valid(mark: u8) -> usize
-    ensures { λ r. ⌜ (r ≡ isMark 1 mark) × (r ≤ 1) ⌝ }
-{
-    if mark == mark::VALID {
-        return 1;
-    }
-    0
-}
-
-// §2.9: how many slots of a mark word are valid.
-fn in_word(word: u64) -> usize
-    ensures { λ r. ⌜ (r ≡ countMarks 1 word) × (r ≤ 3) ⌝ }
-{
-    let first = one_if_valid(mark::mark_of(word, 0));
-    let second = one_if_valid(mark::mark_of(word, 1));
-    let third = one_if_valid(mark::mark_of(word, 2));
-    first + second + third
-}
-
 // §2.9, §6.7: counts bucket by bucket, and stops at the first that is broken.
 pub fn count(board: &[u64], buckets: usize) -> Counted
     requires { ⌜ (buckets ≤ 256) × (length (now board) ≡ 8 * buckets) ⌝ }
@@ -71,7 +50,7 @@ pub fn count(board: &[u64], buckets: usize) -> Counted
         if bucket::is_broken(&board[at..at + 8]) {
             return Counted::Refusal(refusal::BROKEN_BUCKET);
         }
-        lots += in_word(board[at]);
+        lots += mark::valid_slots(board[at]);
         b += 1;
     }
     Counted::Lots(lots)

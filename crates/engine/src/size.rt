@@ -1,6 +1,6 @@
 // Whether floor, board and list fit together.
 ghost use mathlib.Core.Path.{_≡_};
-ghost use Rattle.engine.specs.Refusals.{wrongWords, wrongListed, wrongFloor, wrongSizes};
+ghost use Rattle.engine.specs.Refusals.{wrongWords, wrongListed, wrongFloor};
 use crate::Floor;
 
 // §6.1: W, N or the number of words is wrong.
@@ -23,7 +23,7 @@ fn has_wrong_words(floor: Floor, words: usize) -> bool
 }
 
 // §6.1: W, N, the number of words or the number of records is wrong.
-pub fn words_are_wrong(floor: Floor, words: usize, listed: usize) -> bool
+pub fn are_wrong(floor: Floor, words: usize, listed: usize) -> bool
     ensures { λ r. ⌜ r ≡ wrongListed floor words listed ⌝ }
 {
     if has_wrong_words(floor, words) {
@@ -37,11 +37,4 @@ pub fn is_wrong(board: &[u64], floor: Floor) -> bool
     ensures { λ r. ⌜ r ≡ wrongFloor floor (now (board .entry)) ⌝ }
 {
     has_wrong_words(floor, board.len())
-}
-
-// §6.1: whether the sizes of a board and a list are wrong.
-pub fn are_wrong(board: &[u64], floor: Floor, listed: usize) -> bool
-    ensures { λ r. ⌜ r ≡ wrongSizes floor (now (board .entry)) listed ⌝ }
-{
-    words_are_wrong(floor, board.len(), listed)
 }

@@ -29,3 +29,21 @@ pub fn retired(board: &mut [u64], floor: Floor, w: Worker) -> Retired
     let at = lots::first_word(w.key, floor.buckets);
     turn::retire::on_bucket(&mut board[at..at + 8], w)
 }
+
+// §2.4, §7.2: the number of refusal of such a turn, or 0.
+pub fn turn_refusal(board: &[u64], floor: Floor, w: Worker) -> u8
+    requires { ⌜ Right floor (now board) ⌝ }
+    ensures { λ r. ⌜ r ≡ turnRefusal (bucketFor floor (now (board .entry)) (w .key)) w ⌝ }
+{
+    let at = lots::first_word(w.key, floor.buckets);
+    turn::turn_number(&board[at..at + 8], w)
+}
+
+// §2.4, §7.2: the number of refusal of such a retiring, or 0.
+pub fn retire_refusal(board: &[u64], floor: Floor, w: Worker) -> u8
+    requires { ⌜ Right floor (now board) ⌝ }
+    ensures { λ r. ⌜ r ≡ retireRefusal (bucketFor floor (now (board .entry)) (w .key)) w ⌝ }
+{
+    let at = lots::first_word(w.key, floor.buckets);
+    turn::retire::retire_refusal(&board[at..at + 8], w)
+}

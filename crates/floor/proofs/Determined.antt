@@ -1,5 +1,5 @@
--- §12.2: two outcomes that meet the promise of a call are equal: the board, the list and what is handed back. Each is over the record that
--- the call's contract cites; of a show and of its second call the engine's show-determined and show-refusal-determined say it. Assumes
+-- §12.2: two outcomes that meet the promise of a call are equal: the board, the list, the index and what is handed back. Each is over the record
+-- that the call's contract cites; of a show and of its second call the engine's show-determined and show-refusal-determined say it. Assumes
 -- nothing.
 use Prim.Native.Nat.{ℕ}
 use mathlib.Core.Path.{_≡_, ap}
@@ -12,14 +12,18 @@ use Rattle.engine.specs.declared.Floor.{Floor}
 use Rattle.engine.specs.declared.Plan.{Plan}
 use Rattle.engine.specs.declared.Seat.{Seat}
 use Rattle.engine.specs.declared.Started.{Started}
-use Rattle.engine.specs.Calls.{Opened}
+use Rattle.engine.specs.Calls.{Opened, recordIn}
+use Rattle.hall.specs.Calls.{openedIndex, retiredIndex, Indexed}
+use Rattle.hall.proofs.Determined.{one-index}
 use Rattle.floor.specs.declared.Outcome.{Outcome}
 use Rattle.floor.specs.declared.TurnOutcome.{TurnOutcome}
 use Rattle.floor.specs.declared.RunOutcome.{RunOutcome}
 use Rattle.floor.specs.declared.Part.{Part}
 use Rattle.floor.specs.declared.CountOutcome.{CountOutcome}
+use Rattle.floor.specs.declared.TotalOutcome.{TotalOutcome}
+use Rattle.floor.specs.declared.NextOutcome.{NextOutcome}
 use Rattle.floor.specs.Calls.{OnList, onList}
-use Rattle.floor.specs.Promises.{FloorOpened, StartLeft, TurnLeft, RetireLeft, RunLeft, PartShown, CountLeft}
+use Rattle.floor.specs.Promises.{FloorOpened, StartLeft, TurnLeft, RetireLeft, RunLeft, PartShown, CountLeft, TotalLeft, NextLeft}
 
 -- a list with an answer, taken apart
 apart : {A : Type 0} {one two : List Worker} {r t : A} → onList one r ≡ onList two t → (one ≡ two) × (r ≡ t)
@@ -33,15 +37,20 @@ both-apart :
     → (b ≡ c) × (one ≡ two) × (r ≡ t)
 both-apart p q = let e = one-outcome p q in let h = apart (e .1) in (e .0, h .0, h .1)
 
--- an opening: the board, the list, and the floor with the number
+-- an opening: the board, the list, the index, and the floor with the number
 pub desk-open-determined :
-    (board : List ℕ) (records : List Worker) (f : Floor) (plan : Plan) (b c : List ℕ) (one two : List Worker) (r t : Outcome)
-    → FloorOpened board records f plan b one r
-    → FloorOpened board records f plan c two t
-    → (b ≡ c) × (one ≡ two) × (r ≡ t)
-desk-open-determined board records f plan b c one two r t p q =
-    let e = one-outcome (p .whole) (q .whole) in
-    (e .0, ap (λ (y : Opened). y .records) (e .1), λ i. record { refusal = e .1 i .refusal; floor = e .1 i .floor })
+    (board : List ℕ) (records : List Worker) (index : List ℕ) (f : Floor) (plan : Plan) (b c : List ℕ) (one two : List Worker) (j k : List ℕ)
+    (r t : Outcome)
+    → FloorOpened board records index f plan b one j r
+    → FloorOpened board records index f plan c two k t
+    → (b ≡ c) × (one ≡ two) × (j ≡ k) × (r ≡ t)
+desk-open-determined board records index f plan b c one two j k r t p q =
+    let e = one-outcome (p .whole) (q .whole) in (
+      e .0,
+      ap (λ (y : Opened). y .records) (e .1),
+      one-index (openedIndex index) (p .kept) (q .kept) (ap (λ (y : Opened). y .refusal) (e .1)),
+      λ i. record { refusal = e .1 i .refusal; floor = e .1 i .floor },
+    )
 
 -- a look, an insert and a remove: the list, and the floor with the number
 pub desk-start-determined :
@@ -52,29 +61,42 @@ pub desk-start-determined :
     → (one ≡ two) × (r ≡ t)
 desk-start-determined start board records f i b one two r t p q = apart (one-answer (p .whole) (q .whole))
 
--- a turn: the board, the list, and what it tells
+-- a turn: the board, the list, the index, and what it tells
 pub desk-turn-determined :
-    (board : List ℕ) (records : List Worker) (f : Floor) (i : ℕ) (b c : List ℕ) (one two : List Worker) (r t : TurnOutcome)
-    → TurnLeft board records f i b one r
-    → TurnLeft board records f i c two t
-    → (b ≡ c) × (one ≡ two) × (r ≡ t)
-desk-turn-determined board records f i b c one two r t p q = both-apart (p .whole) (q .whole)
+    (board : List ℕ) (records : List Worker) (index : List ℕ) (f : Floor) (i : ℕ) (b c : List ℕ) (one two : List Worker) (j k : List ℕ)
+    (r t : TurnOutcome)
+    → TurnLeft board records index f i b one j r
+    → TurnLeft board records index f i c two k t
+    → (b ≡ c) × (one ≡ two) × (j ≡ k) × (r ≡ t)
+desk-turn-determined board records index f i b c one two j k r t p q =
+    let e = both-apart (p .whole) (q .whole) in (e .0, e .1, one-answer (p .kept) (q .kept), e .2)
 
--- a retiring: the board, the list, and the number
+-- a retiring: the board, the list, the index, and the number
 pub desk-retire-determined :
-    (board : List ℕ) (records : List Worker) (f : Floor) (i : ℕ) (b c : List ℕ) (one two : List Worker) (r t : ℕ)
-    → RetireLeft board records f i b one r
-    → RetireLeft board records f i c two t
-    → (b ≡ c) × (one ≡ two) × (r ≡ t)
-desk-retire-determined board records f i b c one two r t p q = both-apart (p .whole) (q .whole)
+    (board : List ℕ) (records : List Worker) (index : List ℕ) (f : Floor) (i : ℕ) (b c : List ℕ) (one two : List Worker) (j k : List ℕ) (r t : ℕ)
+    → RetireLeft board records index f i b one j r
+    → RetireLeft board records index f i c two k t
+    → (b ≡ c) × (one ≡ two) × (j ≡ k) × (r ≡ t)
+desk-retire-determined board records index f i b c one two j k r t p q =
+    let e = both-apart (p .whole) (q .whole) in
+    (e .0, e .1, one-index (retiredIndex f board index (recordIn records i)) (p .kept) (q .kept) (e .2), e .2)
 
--- a run: the board, the list, and what it tells
+-- a run: the board, the list, the index, and what it tells
 pub desk-run-determined :
-    (board : List ℕ) (records : List Worker) (f : Floor) (turns b c : List ℕ) (one two : List Worker) (r t : RunOutcome)
-    → RunLeft board records f turns b one r
-    → RunLeft board records f turns c two t
-    → (b ≡ c) × (one ≡ two) × (r ≡ t)
-desk-run-determined board records f turns b c one two r t p q = both-apart (p .whole) (q .whole)
+    (board : List ℕ) (records : List Worker) (index : List ℕ) (f : Floor) (turns b c : List ℕ) (one two : List Worker) (j k : List ℕ)
+    (r t : RunOutcome)
+    → RunLeft board records index f turns b one j r
+    → RunLeft board records index f turns c two k t
+    → (b ≡ c) × (one ≡ two) × (j ≡ k) × (r ≡ t)
+desk-run-determined board records index f turns b c one two j k r t p q =
+    let e = one-answer (p .whole) (q .whole) in
+    let left = ap (λ (y : Indexed (After (OnList RunOutcome))). y .left) e in
+    let h = apart (ap (λ (y : After (OnList RunOutcome)). y .handed) left) in (
+      ap (λ (y : After (OnList RunOutcome)). y .words) left,
+      h .0,
+      ap (λ (y : Indexed (After (OnList RunOutcome))). y .index) e,
+      h .1,
+    )
 
 -- a show to C: the words that are meant
 pub desk-show-determined : (board : List ℕ) (f : Floor) (lot : ℕ) (p q : Part) → PartShown board f lot p → PartShown board f lot q → p ≡ q
@@ -86,3 +108,13 @@ desk-show-determined board f lot p q x y =
 -- a count
 pub desk-count-determined : (board : List ℕ) (f : Floor) (r t : CountOutcome) → CountLeft board f r → CountLeft board f t → r ≡ t
 desk-count-determined board f r t p q = one-answer (p .whole) (q .whole)
+
+-- a total
+pub desk-total-determined :
+    (board index : List ℕ) (f : Floor) (r t : TotalOutcome) → TotalLeft board index f r → TotalLeft board index f t → r ≡ t
+desk-total-determined board index f r t p q = one-answer (p .whole) (q .whole)
+
+-- a next occupied bucket
+pub desk-next-determined :
+    (board index : List ℕ) (f : Floor) (from : ℕ) (r t : NextOutcome) → NextLeft board index f from r → NextLeft board index f from t → r ≡ t
+desk-next-determined board index f from r t p q = one-answer (p .whole) (q .whole)

@@ -79,7 +79,7 @@ module _ (ps : List (Slot 1)) (ks : Kepts ps) (R : RattleType) where
   }
 
 -- what is asked of its contract at these arguments: it asks nothing, and says φ
-abbrev Says : {M : Type 1} (𝓤 : URA M) (T : Ended) (c : Clauses 𝓤 T) (κs : Lfts (T .signature .lifetimes)) (a : Args (T .signature) κs)
+abbrev pub Says : {M : Type 1} (𝓤 : URA M) (T : Ended) (c : Clauses 𝓤 T) (κs : Lfts (T .signature .lifetimes)) (a : Args (T .signature) κs)
     → (Res (T .signature) κs → Lasts T κs a → Type 0) → Type 2
 Says 𝓤 T c κs a φ = (g : c κs a .ghost) × ent 𝓤 (emp 𝓤) (c κs a .requires g) × ((r : Res (T .signature) κs) (ws : Lasts T κs a)
     → c κs a .ensures g r (atExit T κs a ws) ≡ fact 𝓤 (φ r ws))

@@ -1,6 +1,7 @@
 pub mod Acts
 pub mod Beside
 pub mod Determined
+pub mod Displayed
 pub mod ForWorker
 pub mod Laps
 pub mod Leaves

@@ -1,5 +1,5 @@
--- What the calls of a turn, of a retiring and of a count say is what their promises say: the equation, and the number that the answer tells.
--- Assumes nothing.
+-- What the calls of a turn, of a retiring, of a count and of the display's questions say is what their promises say: the equation, the five words,
+-- and the number that the answer tells. Assumes nothing.
 use Prim.Native.Nat.{ℕ}
 use mathlib.Core.Path.{_≡_, refl, ap, _∙_}
 use mathlib.Core.List.{List}
@@ -16,20 +16,28 @@ use Rattle.engine.specs.declared.Floor.{Floor}
 use Rattle.engine.specs.declared.Seat.{Seat}
 use Rattle.engine.specs.declared.Counted.{Counted}
 use Rattle.engine.specs.declared.Counted.the-variants.{Refusal, Lots}
-use Rattle.engine.specs.Refusals.{turnNumber}
-use Rattle.engine.specs.Calls.{blank, recordIn, seatIn, tried, tryCall, turnCall, recordsLeft, retireCall, countedNumber}
-use Rattle.engine.specs.Promises.{TurnTried, WorkerRetired, CountDone}
+use Rattle.engine.specs.Calls.{blank, recordIn, seatIn, tried, recordsLeft, countedNumber}
+use Rattle.engine.specs.Promises.{CountDone}
 use Rattle.engine.specs.Firsts.{firsts}
-use Rattle.engine.proofs.Numbers.{turn-number}
 use Rattle.engine.proofs.Turns.{tried-is-turned}
 use Rattle.engine.proofs.Firsts.{firsts-none}
+use Rattle.hall.specs.declared.Totalled.{Totalled}
+use Rattle.hall.specs.declared.Totalled.the-variants as Totalled
+use Rattle.hall.specs.declared.Next.{Next}
+use Rattle.hall.specs.declared.Next.the-variants as Next
+use Rattle.hall.specs.Refusals.{hallTurnNumber}
+use Rattle.hall.specs.Calls.{hallTry, hallTurn, indexLeft, hallRetire, totalledNumber, nextNumber}
+use Rattle.hall.specs.Promises.{TurnKept, RetireKept, TotalTold, NextTold}
 use Rattle.floor.specs.declared.TurnOutcome.{TurnOutcome}
 use Rattle.floor.specs.declared.CountOutcome.{CountOutcome}
-use Rattle.floor.specs.Told.{turnTold, countTold}
+use Rattle.floor.specs.declared.TotalOutcome.{TotalOutcome}
+use Rattle.floor.specs.declared.NextOutcome.{NextOutcome}
+use Rattle.floor.specs.Told.{turnTold, countTold, totalTold, nextTold}
 use Rattle.floor.specs.Lent.{beside}
 use Rattle.floor.specs.Calls.{OnList, onList, stepIn, sleepers, sayIn, turnIn}
-use Rattle.floor.specs.Promises.{TurnLeft, RetireLeft, CountLeft}
+use Rattle.floor.specs.Promises.{TurnLeft, RetireLeft, CountLeft, TotalLeft, NextLeft}
 use Rattle.floor.proofs.Beside.{all-beside}
+use Rattle.hall.proofs.Plain.{hall-turn-number}
 
 -- the number of a turn's answer is the one that crosses
 told-number : (a : Answer) → turnTold a .refusal ≡ numberOf a
@@ -51,22 +59,25 @@ put-back {D} {R} worker rest core board records f i w o board′ records′ e₁
 
 -- a turn as far as it concerns its own worker
 pub steps-in :
-    (board : List ℕ) (records : List Worker) (f : Floor) (i : ℕ) (w : Worker) (o : Tried) (board′ : List ℕ) (records′ : List Worker)
+    (board : List ℕ) (records : List Worker) (index : List ℕ) (f : Floor) (i : ℕ) (w : Worker) (o : Tried)
+    (board′ : List ℕ) (records′ : List Worker) (index′ : List ℕ)
     → w ≡ recordIn records i
-    → TurnTried board (seatIn f records i) w board′ o
+    → TurnKept board index (seatIn f records i) w board′ index′ o
     → records′ ≡ set records i (o .worker)
-    → after board′ (onList records′ (o .said)) ≡ stepIn board records f i
-steps-in board records f i w o board′ records′ e₁ e₂ e₃ =
-    put-back (λ (x : Tried). x .worker) (λ (x : Tried). x .said) tryCall board records f i w o board′ records′ e₁ (e₂ .whole) e₃
+    → (after board′ (onList records′ (o .said)) ≡ stepIn board records index f i) × (index′ ≡ indexLeft index (answerOf (o .said)))
+steps-in board records index f i w o board′ records′ index′ e₁ e₂ e₃ = (
+  put-back (λ (x : Tried). x .worker) (λ (x : Tried). x .said) (λ b s u. hallTry b index s u) board records f i w o board′ records′ e₁ (e₂ .whole) e₃,
+  e₂ .kept,
+)
 
 -- the others sleep where it is done, and where it is refused the worker's own record is put back as it was
 rest-sleep :
-    (board : List ℕ) (records : List Worker) (f : Floor) (i : ℕ)
-    → let x = tryCall board (seatIn f records i) (recordIn records i) .handed in
+    (board : List ℕ) (records : List Worker) (index : List ℕ) (f : Floor) (i : ℕ)
+    → let x = hallTry board index (seatIn f records i) (recordIn records i) .handed in
     firsts (beside i) (sleepers (x .said .refusal) (length records)) (set records i (x .worker)) ≡ recordsLeft records i (x .worker) (answerOf (x .said))
-unfolding tryCall tried
-rest-sleep board records f i =
-    let n = turnNumber f board (length records) i (recordIn records i) in
+unfolding hallTry tried
+rest-sleep board records index f i =
+    let n = hallTurnNumber f board index (length records) i (recordIn records i) in
     by-cases
     (λ (x : After Tried).
     firsts (beside i) (sleepers (x .handed .said .refusal) (length records)) (set records i (x .handed .worker))
@@ -76,48 +87,59 @@ rest-sleep board records f i =
 
 -- a turn as it is tried: a step of its own worker, and then the others
 pub says-in :
-    (board : List ℕ) (records : List Worker) (f : Floor) (i : ℕ) (board′ : List ℕ) (between records′ : List Worker) (said : Said) (count : ℕ)
-    → after board′ (onList between said) ≡ stepIn board records f i
+    (board : List ℕ) (records : List Worker) (index : List ℕ) (f : Floor) (i : ℕ) (board′ : List ℕ) (between records′ : List Worker) (said : Said) (count : ℕ)
+    → after board′ (onList between said) ≡ stepIn board records index f i
     → count ≡ sleepers (said .refusal) (length records)
     → records′ ≡ firsts (beside i) count between
-    → after board′ (onList records′ said) ≡ sayIn board records f i
-says-in board records f i board′ between records′ said count e₁ e₂ e₃ =
-    let x = tryCall board (seatIn f records i) (recordIn records i) in
+    → after board′ (onList records′ said) ≡ sayIn board records index f i
+says-in board records index f i board′ between records′ said count e₁ e₂ e₃ =
+    let x = hallTry board index (seatIn f records i) (recordIn records i) in
     let go : After (OnList Said) → After (OnList Said) = λ y.
     after (y .words) (onList (firsts (beside i) (sleepers (y .handed .answer .refusal) (length records)) (y .handed .records)) (y .handed .answer)) in
-    rw (e₃, e₂) (ap go e₁ ∙ ap (λ (ws : List Worker). after (x .words) (onList ws (x .handed .said))) (rest-sleep board records f i))
+    rw (e₃, e₂) (ap go e₁ ∙ ap (λ (ws : List Worker). after (x .words) (onList ws (x .handed .said))) (rest-sleep board records index f i))
 
 -- a turn: what it says, told
 pub turn-left :
-    (board : List ℕ) (records : List Worker) (f : Floor) (i : ℕ) (board′ : List ℕ) (records′ : List Worker) (said : Said) (r : TurnOutcome)
-    → after board′ (onList records′ said) ≡ sayIn board records f i
+    (board : List ℕ) (records : List Worker) (index : List ℕ) (f : Floor) (i : ℕ) (board′ : List ℕ) (records′ : List Worker) (index′ : List ℕ)
+    (said : Said) (r : TurnOutcome)
+    → (after board′ (onList records′ said) ≡ sayIn board records index f i) × (index′ ≡ indexLeft index (answerOf said))
     → r ≡ turnTold (answerOf said)
-    → TurnLeft board records f i board′ records′ r
-unfolding tryCall turnCall
-turn-left board records f i board′ records′ said r e₁ e₂ =
-    let n = turnNumber f board (length records) i (recordIn records i) in
+    → TurnLeft board records index f i board′ records′ index′ r
+unfolding hallTry hallTurn
+turn-left board records index f i board′ records′ index′ said r e₁ e₂ =
+    let n = hallTurnNumber f board index (length records) i (recordIn records i) in
     let w = recordIn records i in
+    let same = tried-is-turned n f board w in
     let tell : After (OnList Said) → After (OnList TurnOutcome) =
     λ x. after (x .words) (onList (x .handed .records) (turnTold (answerOf (x .handed .answer)))) in
     let put : After Turned → After (OnList TurnOutcome) =
     λ x. after (x .words) (onList (recordsLeft records i (x .handed .worker) (x .handed .answer)) (turnTold (x .handed .answer))) in
-    let whole : after board′ (onList records′ r) ≡ turnIn board records f i =
-    rw e₂ (ap tell e₁ ∙ ap put (tried-is-turned n f board w)) in
+    let whole : after board′ (onList records′ r) ≡ turnIn board records index f i = rw e₂ (ap tell (e₁ .0) ∙ ap put same) in
+    let answers : answerOf said ≡ hallTurn board index (seatIn f records i) w .handed .answer =
+    ap (λ (x : After (OnList Said)). answerOf (x .handed .answer)) (e₁ .0) ∙ ap (λ (x : After Turned). x .handed .answer) same in
     record {
       whole = whole;
-      number = ap (λ (x : After (OnList TurnOutcome)). x .handed .answer .refusal) whole ∙ told-number (turnCall board (seatIn f records i) w .handed .answer) ∙ turn-number board (seatIn f records i) w;
+      kept = e₁ .1 ∙ ap (indexLeft index) answers;
+      number =
+          ap (λ (x : After (OnList TurnOutcome)). x .handed .answer .refusal) whole
+          ∙ told-number (hallTurn board index (seatIn f records i) w .handed .answer)
+          ∙ hall-turn-number board index (seatIn f records i) w;
     }
 
 -- a retiring
 pub retire-left :
-    (board : List ℕ) (records : List Worker) (f : Floor) (i : ℕ) (w : Worker) (o : Retired) (board′ : List ℕ) (records′ : List Worker)
+    (board : List ℕ) (records : List Worker) (index : List ℕ) (f : Floor) (i : ℕ) (w : Worker) (o : Retired)
+    (board′ : List ℕ) (records′ : List Worker) (index′ : List ℕ)
     → w ≡ recordIn records i
-    → WorkerRetired board (seatIn f records i) w board′ o
+    → RetireKept board index (seatIn f records i) w board′ index′ o
     → records′ ≡ set records i (o .worker)
-    → RetireLeft board records f i board′ records′ (o .refusal)
-retire-left board records f i w o board′ records′ e₁ e₂ e₃ =
+    → RetireLeft board records index f i board′ records′ index′ (o .refusal)
+retire-left board records index f i w o board′ records′ index′ e₁ e₂ e₃ =
     record {
-      whole = put-back (λ (x : Retired). x .worker) (λ (x : Retired). x .refusal) retireCall board records f i w o board′ records′ e₁ (e₂ .whole) e₃;
+      whole =
+          put-back (λ (x : Retired). x .worker) (λ (x : Retired). x .refusal) (λ b s u. hallRetire b index s u) board records f i w o board′ records′ e₁
+          (e₂ .whole) e₃;
+      kept = rw (← e₁) (e₂ .kept);
       number = rw (← e₁) (e₂ .number);
     }
 
@@ -129,3 +151,27 @@ count-number (Lots lots) = refl
 -- a count
 pub count-left : (board : List ℕ) (f : Floor) (c : Counted) (r : CountOutcome) → CountDone board f c → r ≡ countTold c → CountLeft board f r
 count-left board f c r done e = record { whole = e ∙ ap countTold (done .whole); number = rw e (count-number c ∙ done .number) }
+
+-- so is that of a total's answer
+total-number : (t : Totalled) → totalTold t .refusal ≡ totalledNumber t
+total-number (Totalled.Refusal number) = refl
+total-number (Totalled.Slots slots) = refl
+
+-- a total
+pub total-left :
+    (board index : List ℕ) (f : Floor) (t : Totalled) (r : TotalOutcome) → TotalTold board index f t → r ≡ totalTold t → TotalLeft board index f r
+total-left board index f t r told e = record { whole = e ∙ ap totalTold (told .whole); number = rw e (total-number t ∙ told .number) }
+
+-- and that of a next bucket's answer
+next-number : (n : Next) → nextTold n .refusal ≡ nextNumber n
+next-number (Next.Refusal number) = refl
+next-number Next.Nowhere = refl
+next-number (Next.Bucket b) = refl
+
+-- a next occupied bucket
+pub next-left :
+    (board index : List ℕ) (f : Floor) (from : ℕ) (n : Next) (r : NextOutcome)
+    → NextTold board index f from n
+    → r ≡ nextTold n
+    → NextLeft board index f from r
+next-left board index f from n r told e = record { whole = e ∙ ap nextTold (told .whole); number = rw e (next-number n ∙ told .number) }

@@ -1,5 +1,5 @@
--- A refused call on the list changes nothing, whatever the list's length. Of an opening and of a run the engine's open-refused and
--- run-refused say it, as they speak of any list. Assumes nothing.
+-- A refused call on the list changes nothing, whatever the list's length: the board, the list and the index are as they came. Of an opening and of a
+-- run the hall's hall-open-refused and hall-run-refused say it, as they speak of any list. Assumes nothing.
 use Prim.Native.Nat.{ℕ}
 use mathlib.Core.Bool.{Bool}
 use mathlib.Core.Path.{_≡_}
@@ -9,11 +9,14 @@ use lib.Seq.{set-getD}
 use Rattle.turn.specs.declared.Worker.{Worker}
 use Rattle.turn.specs.Turn.{Refused, after}
 use Rattle.engine.specs.declared.Floor.{Floor}
-use Rattle.engine.specs.Refusals.{startNumber, turnNumber, retireNumber}
+use Rattle.engine.specs.Refusals.{startNumber}
 use Rattle.engine.specs.Calls.{blank, recordIn, seatIn, startCall}
 use Rattle.engine.proofs.Refused as engine
+use Rattle.hall.specs.Refusals.{hallTurnNumber, hallRetireNumber}
+use Rattle.hall.specs.Calls.{hallTurn, indexLeft, retiredIndex}
 use Rattle.floor.specs.Told.{turnTold}
 use Rattle.floor.specs.Calls.{onList, startIn, turnIn, retireIn}
+use Rattle.hall.proofs.Refused.{hall-turn-refused, hall-retire-refused}
 
 module _ (board : List ℕ) (records : List Worker) (f : Floor) (i : ℕ) where
   -- a look, an insert and a remove, each a start that may be late
@@ -25,18 +28,22 @@ module _ (board : List ℕ) (records : List Worker) (f : Floor) (i : ℕ) where
   desk-start-refused late new g some =
       rw (engine.start-refused board (seatIn f records i) (recordIn records i) late new g some, set-getD records i blank)
 
+module _ (board : List ℕ) (records : List Worker) (index : List ℕ) (f : Floor) (i : ℕ) where
   -- a turn
   pub desk-turn-refused :
-      let number = turnNumber f board (length records) i (recordIn records i) in
+      let number = hallTurnNumber f board index (length records) i (recordIn records i) in
       (number ≡ 0 → ⊥)
-      → turnIn board records f i ≡ after board (onList records (turnTold (Refused number)))
+      → (turnIn board records index f i ≡ after board (onList records (turnTold (Refused number))))
+      × (indexLeft index (hallTurn board index (seatIn f records i) (recordIn records i) .handed .answer) ≡ index)
   desk-turn-refused some =
-      rw (engine.turn-refused board (seatIn f records i) (recordIn records i) some)
+      let left = hall-turn-refused board index (seatIn f records i) (recordIn records i) some in
+      (rw (left .0), left .1)
 
   -- a retiring
   pub desk-retire-refused :
-      let number = retireNumber f board (length records) i (recordIn records i) in
+      let number = hallRetireNumber f board index (length records) i (recordIn records i) in
       (number ≡ 0 → ⊥)
-      → retireIn board records f i ≡ after board (onList records number)
+      → (retireIn board records index f i ≡ after board (onList records number)) × (retiredIndex f board index (recordIn records i) number ≡ index)
   desk-retire-refused some =
-      rw (engine.retire-refused board (seatIn f records i) (recordIn records i) some, set-getD records i blank)
+      let left = hall-retire-refused board index (seatIn f records i) (recordIn records i) some in
+      (rw (left .0, set-getD records i blank), left .1)

@@ -5,14 +5,14 @@ use lib.Dec.{eqb, ltb}
 use Rattle.turn.specs.declared.Said.{Said}
 use Rattle.turn.specs.Turn.{noReport}
 use Rattle.engine.specs.declared.Floor.{Floor}
-use Rattle.engine.specs.Refusals.{runRefusal}
+use Rattle.hall.specs.Refusals.{hallRunRefusal}
 use Rattle.engine.specs.Calls.{noTurns, tallied, cappedTotals}
 use Rattle.floor.specs.declared.run.Running.{Running}
 
 -- before its first turn; at its end where it is refused as a whole
-unfoldable pub begun : Floor → ℕ → ℕ → ℕ → Running
-begun f words listed turns =
-    let number = runRefusal f words listed turns in
+unfoldable pub begun : Floor → ℕ → ℕ → ℕ → ℕ → Running
+begun f words listed entries turns =
+    let number = hallRunRefusal f words listed entries turns in
     cond (eqb number 0)
     (record { totals = noTurns; at = 0; end = turns; last = noReport; stop = 0 })
     (record { totals = noTurns; at = turns; end = turns; last = noReport; stop = number })

@@ -11,11 +11,17 @@ use Rattle.engine.specs.declared.Started.{Started}
 use Rattle.engine.specs.declared.Totals.{Totals}
 use Rattle.engine.specs.declared.Counted.{Counted}
 use Rattle.engine.specs.declared.Counted.the-variants.{Refusal, Lots}
+use Rattle.hall.specs.declared.Totalled.{Totalled}
+use Rattle.hall.specs.declared.Totalled.the-variants as Totalled
+use Rattle.hall.specs.declared.Next.{Next}
+use Rattle.hall.specs.declared.Next.the-variants as Next
 use Rattle.floor.specs.declared.Outcome.{Outcome}
 use Rattle.floor.specs.declared.ReportOutcome.{ReportOutcome}
 use Rattle.floor.specs.declared.TurnOutcome.{TurnOutcome}
 use Rattle.floor.specs.declared.RunOutcome.{RunOutcome}
 use Rattle.floor.specs.declared.CountOutcome.{CountOutcome}
+use Rattle.floor.specs.declared.TotalOutcome.{TotalOutcome}
+use Rattle.floor.specs.declared.NextOutcome.{NextOutcome}
 
 -- §14.9: the actions from 1 on; 0 is no action (decision 45)
 abbrev pub actionNumber : Action → ℕ
@@ -68,3 +74,14 @@ runTold last totals stop = record { last = reportTold last; totals = totals; sto
 abbrev pub countTold : Counted → CountOutcome
 countTold (Refusal number) = record { refusal = number; lots = 0 }
 countTold (Lots lots) = record { refusal = 0; lots = lots }
+
+-- §14.9, §21.3: a total's answer
+abbrev pub totalTold : Totalled → TotalOutcome
+totalTold (Totalled.Refusal number) = record { refusal = number; total = 0 }
+totalTold (Totalled.Slots slots) = record { refusal = 0; total = slots }
+
+-- §14.9, §21.4: a next bucket's answer: that there is none is told apart from bucket 0
+abbrev pub nextTold : Next → NextOutcome
+nextTold (Next.Refusal number) = record { refusal = number; found = false; bucket = 0 }
+nextTold Next.Nowhere = record { refusal = 0; found = false; bucket = 0 }
+nextTold (Next.Bucket b) = record { refusal = 0; found = true; bucket = b }

@@ -1,8 +1,9 @@
-// The desk's library: every call over a lent board and one lent list of worker records. What holds the list is thin: it takes out the
-// record that the call concerns, lets the engine go on with it, and puts it back. C calls them under these names: include/desk.h.
+// The desk's library: every call over a lent board, one lent list of worker records and, where it keeps or reads one, a lent index. What holds
+// the list is thin: it takes out the record that the call concerns, lets the engine or the hall go on with it, and puts it back. C calls
+// them under these names: include/desk.h.
 ghost use Rattle.engine.specs.Calls.{lookCall, insertCall, removeCall};
 ghost use Rattle.engine.specs.Promises.{Shown, ShowTested};
-ghost use Rattle.floor.specs.Promises.{FloorOpened, StartLeft, TurnLeft, RetireLeft, RunLeft, PartShown, CountLeft};
+ghost use Rattle.floor.specs.Promises.{FloorOpened, StartLeft, TurnLeft, RetireLeft, RunLeft, PartShown, CountLeft, TotalLeft, NextLeft};
 use engine::Bid;
 use engine::Floor;
 use engine::Plan;
@@ -67,18 +68,34 @@ pub struct CountOutcome {
     pub refusal: u8,
 }
 
+// §21.3: the number of valid slots that the index has, and the number of refusal, or 0.
+#[repr(C)]
+pub struct TotalOutcome {
+    pub total: u64,
+    pub refusal: u8,
+}
+
+// §21.4: whether there is a next occupied bucket, and which, and the number of refusal, or 0.
+#[repr(C)]
+pub struct NextOutcome {
+    pub bucket: usize,
+    pub found: bool,
+    pub refusal: u8,
+}
+
 // §1.1: opens a floor. `floor` is the one that stood before, and comes back where the opening is refused.
 #[no_mangle]
 pub extern "C" fn desk_open_floor(
     board: &mut [u64],
     records: &mut [Worker],
+    index: &mut [u64],
     floor: Floor,
     plan: Plan,
 ) -> Outcome
-    ensures { λ r. ⌜ FloorOpened (now (board .entry)) (now (records .entry)) floor plan (now (board .exit)) (now (records .exit)) r ⌝ }
+    ensures { λ r. ⌜ FloorOpened (now (board .entry)) (now (records .entry)) (now (index .entry)) floor plan (now (board .exit)) (now (records .exit)) (now (index .exit)) r ⌝ }
 {
     let listed = records.len();
-    let laid = engine::open_floor(board, floor, listed, plan);
+    let laid = hall::open_floor(board, index, floor, listed, plan);
     let idle = record::idle();
     list::put_all(records, idle, laid.idle);
     Outcome {
@@ -170,12 +187,13 @@ pub extern "C" fn desk_start_remove(
 pub extern "C" fn desk_turn(
     board: &mut [u64],
     records: &mut [Worker],
+    index: &mut [u64],
     floor: Floor,
     worker: usize,
 ) -> TurnOutcome
-    ensures { λ r. ⌜ TurnLeft (now (board .entry)) (now (records .entry)) floor worker (now (board .exit)) (now (records .exit)) r ⌝ }
+    ensures { λ r. ⌜ TurnLeft (now (board .entry)) (now (records .entry)) (now (index .entry)) floor worker (now (board .exit)) (now (records .exit)) (now (index .exit)) r ⌝ }
 {
-    let said = list::turn_at(board, records, floor, worker);
+    let said = list::turn_at(board, records, index, floor, worker);
     told::turn(said)
 }
 
@@ -184,10 +202,11 @@ pub extern "C" fn desk_turn(
 pub extern "C" fn desk_retire(
     board: &mut [u64],
     records: &mut [Worker],
+    index: &mut [u64],
     floor: Floor,
     worker: usize,
 ) -> u8
-    ensures { λ r. ⌜ RetireLeft (now (board .entry)) (now (records .entry)) floor worker (now (board .exit)) (now (records .exit)) r ⌝ }
+    ensures { λ r. ⌜ RetireLeft (now (board .entry)) (now (records .entry)) (now (index .entry)) floor worker (now (board .exit)) (now (records .exit)) (now (index .exit)) r ⌝ }
 {
     let listed = records.len();
     let w = list::take_at(records, worker);
@@ -196,7 +215,7 @@ pub extern "C" fn desk_retire(
         listed,
         worker,
     };
-    let done = engine::retire(board, seat, w);
+    let done = hall::retire(board, index, seat, w);
     list::put_at(records, worker, done.worker);
     done.refusal
 }
@@ -206,18 +225,20 @@ pub extern "C" fn desk_retire(
 pub extern "C" fn desk_run(
     board: &mut [u64],
     records: &mut [Worker],
+    index: &mut [u64],
     floor: Floor,
     turns: &[u8],
 ) -> RunOutcome
-    ensures { λ r. ⌜ RunLeft (now (board .entry)) (now (records .entry)) floor (now (turns .entry)) (now (board .exit)) (now (records .exit)) r ⌝ }
+    ensures { λ r. ⌜ RunLeft (now (board .entry)) (now (records .entry)) (now (index .entry)) floor (now (turns .entry)) (now (board .exit)) (now (records .exit)) (now (index .exit)) r ⌝ }
 {
     let words = board.len();
     let listed = records.len();
+    let entries = index.len();
     let count = turns.len();
-    let mut run = run::begin(floor, words, listed, count);
+    let mut run = run::begin(floor, words, listed, entries, count);
     while run.at < run.end {
         let worker = run::whose(turns, run.at);
-        let said = list::turn_at(board, records, floor, worker);
+        let said = list::turn_at(board, records, index, floor, worker);
         let next = run::go_on(run, said);
         run = next;
     }
@@ -258,4 +279,27 @@ pub extern "C" fn desk_count(board: &[u64], floor: Floor) -> CountOutcome
 {
     let counted = engine::count(board, floor);
     told::count(counted)
+}
+
+// §1.1, §21.3: the display asks for the number of valid slots.
+#[no_mangle]
+pub extern "C" fn desk_total(board: &[u64], index: &[u64], floor: Floor) -> TotalOutcome
+    ensures { λ r. ⌜ TotalLeft (now (board .entry)) (now (index .entry)) floor r ⌝ }
+{
+    let totalled = hall::total(board, index, floor);
+    told::total(totalled)
+}
+
+// §1.1, §21.4: the display asks for the first occupied bucket at or after one.
+#[no_mangle]
+pub extern "C" fn desk_next_occupied(
+    board: &[u64],
+    index: &[u64],
+    floor: Floor,
+    from: usize,
+) -> NextOutcome
+    ensures { λ r. ⌜ NextLeft (now (board .entry)) (now (index .entry)) floor from r ⌝ }
+{
+    let next = hall::next_occupied(board, index, floor, from);
+    told::next(next)
 }

@@ -3,9 +3,10 @@ ghost use mathlib.Core.Path.{_≡_};
 ghost use mathlib.Core.Bool.{cond};
 ghost use lib.Dec.{ltb};
 ghost use lib.ListN.{getD, set};
-ghost use Rattle.turn.specs.Turn.{after};
+ghost use Rattle.turn.specs.Turn.{after, answerOf};
 ghost use Rattle.engine.specs.Calls.{blank};
 ghost use Rattle.engine.specs.Firsts.{firsts};
+ghost use Rattle.hall.specs.Calls.{indexLeft};
 ghost use Rattle.floor.specs.Lent.{beside};
 ghost use Rattle.floor.specs.Calls.{onList, stepIn, sayIn, sleepers};
 use engine::Floor;
@@ -103,8 +104,15 @@ fn sleepers(refusal: u8, listed: usize) -> usize
 }
 
 // §14.8: one step of a worker of the list: its record is taken out, has its turn, and is put back.
-fn step_at(board: &mut [u64], records: &mut [Worker], floor: Floor, worker: usize) -> Said
-    ensures { λ r. ⌜ after (now (board .exit)) (onList (now (records .exit)) r) ≡ stepIn (now (board .entry)) (now (records .entry)) floor worker ⌝ }
+fn step_at(
+    board: &mut [u64],
+    records: &mut [Worker],
+    index: &mut [u64],
+    floor: Floor,
+    worker: usize,
+) -> Said
+    ensures { λ r. ⌜ (after (now (board .exit)) (onList (now (records .exit)) r) ≡ stepIn (now (board .entry)) (now (records .entry)) (now (index .entry)) floor worker)
+        × (now (index .exit) ≡ indexLeft (now (index .entry)) (answerOf r)) ⌝ }
 {
     let listed = records.len();
     let w = take_at(records, worker);
@@ -113,17 +121,24 @@ fn step_at(board: &mut [u64], records: &mut [Worker], floor: Floor, worker: usiz
         listed,
         worker,
     };
-    let tried = engine::try_turn(board, seat, w);
+    let tried = hall::try_turn(board, index, seat, w);
     put_at(records, worker, tried.worker);
     tried.said
 }
 
 // §4.1, §20.2: one turn of a worker of the list, through which the others that are busy sleep.
-pub fn turn_at(board: &mut [u64], records: &mut [Worker], floor: Floor, worker: usize) -> Said
-    ensures { λ r. ⌜ after (now (board .exit)) (onList (now (records .exit)) r) ≡ sayIn (now (board .entry)) (now (records .entry)) floor worker ⌝ }
+pub fn turn_at(
+    board: &mut [u64],
+    records: &mut [Worker],
+    index: &mut [u64],
+    floor: Floor,
+    worker: usize,
+) -> Said
+    ensures { λ r. ⌜ (after (now (board .exit)) (onList (now (records .exit)) r) ≡ sayIn (now (board .entry)) (now (records .entry)) (now (index .entry)) floor worker)
+        × (now (index .exit) ≡ indexLeft (now (index .entry)) (answerOf r)) ⌝ }
 {
     let listed = records.len();
-    let said = step_at(board, records, floor, worker);
+    let said = step_at(board, records, index, floor, worker);
     let count = sleepers(said.refusal, listed);
     sleep_beside(records, worker, count);
     said

@@ -19,11 +19,12 @@ pub struct Running {
     pub stop: u8,
 }
 
-// §4.10: before its first turn, or at its end where it is refused as a whole: by the words of the board, the records of the list, the turns.
-pub fn begin(floor: Floor, words: usize, listed: usize, turns: usize) -> Running
-    ensures { λ r. ⌜ r ≡ begun floor words listed turns ⌝ }
+// §4.10: before its first turn, or at its end where it is refused as a whole: by the words of the board, the records of the list, the words of
+// the index, the turns.
+pub fn begin(floor: Floor, words: usize, listed: usize, entries: usize, turns: usize) -> Running
+    ensures { λ r. ⌜ r ≡ begun floor words listed entries turns ⌝ }
 {
-    let refusal = engine::run_refusal(floor, words, listed, turns);
+    let refusal = hall::run_refusal(floor, words, listed, entries, turns);
     let totals = tally::nothing();
     let last = turn::no_report();
     if refusal == 0 {

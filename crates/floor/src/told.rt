@@ -1,13 +1,17 @@
-// What the engine's calls hand back, as it goes out to C.
+// What the calls of the engine and the hall hand back, as it goes out to C.
 ghost use mathlib.Core.Path.{_≡_};
 ghost use Rattle.turn.specs.Turn.{Refused, Done, answerOf};
-ghost use Rattle.floor.specs.Told.{actionNumber, isEnded, endedWith, reportTold, turnTold, runTold, countTold};
+ghost use Rattle.floor.specs.Told.{actionNumber, isEnded, endedWith, reportTold, turnTold, runTold, countTold, totalTold, nextTold};
 use crate::CountOutcome;
+use crate::NextOutcome;
 use crate::ReportOutcome;
 use crate::RunOutcome;
+use crate::TotalOutcome;
 use crate::TurnOutcome;
 use crate::run::Running;
 use engine::Counted;
+use hall::Next;
+use hall::Totalled;
 use turn::Action;
 use turn::Progress;
 use turn::Report;
@@ -127,5 +131,42 @@ pub fn count(c: Counted) -> CountOutcome
             refusal: number,
         },
         Counted::Lots(lots) => CountOutcome { lots, refusal: 0 },
+    }
+}
+
+pub fn total(t: Totalled) -> TotalOutcome
+    ensures { λ r. ⌜ r ≡ totalTold t ⌝ }
+{
+    match t {
+        Totalled::Refusal(number) => TotalOutcome {
+            total: 0,
+            refusal: number,
+        },
+        Totalled::Slots(slots) => TotalOutcome {
+            total: slots,
+            refusal: 0,
+        },
+    }
+}
+
+pub fn next(n: Next) -> NextOutcome
+    ensures { λ r. ⌜ r ≡ nextTold n ⌝ }
+{
+    match n {
+        Next::Refusal(number) => NextOutcome {
+            bucket: 0,
+            found: false,
+            refusal: number,
+        },
+        Next::Nowhere => NextOutcome {
+            bucket: 0,
+            found: false,
+            refusal: 0,
+        },
+        Next::Bucket(bucket) => NextOutcome {
+            bucket,
+            found: true,
+            refusal: 0,
+        },
     }
 }

@@ -21,12 +21,15 @@ use Rattle.turn.proofs.Effects.{turn-moves, turn-went, turn-won-at, turn-aims}
 use Rattle.turn.proofs.Kept.{turn-idles}
 use Rattle.engine.specs.Board.{bucketOf, bucketAt, withBucket}
 use Rattle.engine.specs.Refusals.{wrongSizes, turnNumber}
-use Rattle.engine.specs.Calls.{reportOn, turnDone, turned, turnCall}
+use Rattle.engine.specs.Calls.{reportOn, turnDone, turned}
+use Rattle.hall.specs.Refusals.{hallTurnNumber}
+use Rattle.hall.specs.Calls.{hallTurn}
 use Rattle.engine.proofs.Sizes.{right-listed}
 use Rattle.engine.proofs.Keeps.{turn-accepted}
 use Rattle.engine.proofs.Sleeping.{record-awake, awake-after}
 use Rattle.engine.proofs.Reports.{done-tells}
 use Rattle.engine.proofs.Cut.{bucket-within, other-bucket}
+use Rattle.hall.proofs.Plain.{turn-none}
 use Rattle.history.specs.Trace.{Turn, acted}
 use Rattle.history.specs.Counts.{isChange, isCommit, isClose}
 use Rattle.history.specs.History.{State, listedOf, recordOf, turnBy, turnedAs, entryOf, turnEntry}
@@ -58,7 +61,7 @@ module _ (s : State) (i : ℕ) where
 
   -- its number of refusal
   abbrev pub number : ℕ
-  number = turnNumber (s .floor) (s .board) (length (s .records)) i (listedOf s i)
+  number = hallTurnNumber (s .floor) (s .board) (s .index) (length (s .records)) i (listedOf s i)
 
   -- what it does on the bucket, and on the board
   abbrev does : Step
@@ -76,25 +79,29 @@ module _ (s : State) (i : ℕ) where
 
   -- done or refused, it is this
   pub turned-is : turnBy s i ≡ cond (eqb number 0) done (after (s .board) (refusing number (listedOf s i)))
-  unfolding turnCall turned
+  unfolding hallTurn turned
   turned-is = rw is-up
 
   pub done-is : number ≡ 0 → turnBy s i ≡ done
   done-is none = turned-is ∙ rw none
 
-  -- where it is not refused, there is a record for each worker
+  -- where it is not refused, the engine does not refuse it
+  pub plain : number ≡ 0 → turnNumber (s .floor) (s .board) (length (s .records)) i (listedOf s i) ≡ 0
+  plain = turn-none (s .floor) (s .board) (s .index) i (listedOf s i) (length (s .records))
+
+  -- so there is a record for each worker
   listed : number ≡ 0 → length (s .records) ≡ s .floor .workers
   unfolding turnNumber
-  listed none = right-listed (s .floor) (s .board) _ (passes (wrongSizes (s .floor) (s .board) _) 0 _ none .0)
+  listed none = right-listed (s .floor) (s .board) _ (passes (wrongSizes (s .floor) (s .board) _) 0 _ (plain none) .0)
 
   -- and it is accepted on its bucket
   pub done-accepted : number ≡ 0 → Accepted (bucketAt (s .board) b) w
-  done-accepted none = rw is-up (awake-accepted _ _ (turn-accepted (s .floor) (s .board) (length (s .records)) i (listedOf s i) none .1))
+  done-accepted none = rw is-up (awake-accepted _ _ (turn-accepted (s .floor) (s .board) (length (s .records)) i (listedOf s i) (plain none) .1))
 
   -- and it is done: it acts on what demand 3 goes by
   pub done-acts : number ≡ 0 → Acts (s .floor .buckets) (view s) (acted entry) (does .stepped .worker) (view (turnedAs s i done))
   done-acts none =
-      let known = turn-accepted (s .floor) (s .board) (length (s .records)) i (listedOf s i) none in
+      let known = turn-accepted (s .floor) (s .board) (length (s .records)) i (listedOf s i) (plain none) in
       let ok = done-accepted none in
       let bucket = bucketAt (s .board) b in
       let action = does .stepped .action in

@@ -1,9 +1,12 @@
 -- All orders from where an opened board stands: each is a run that the history can go on with, so demand 3 holds of it. Assumes nothing.
 use Prim.Native.Nat.{ℕ, _+_, _≤_}
 use mathlib.Core.Bool.{false}
-use mathlib.Core.Path.{_≡_, refl, ap}
+use mathlib.Core.Path.{_≡_, refl, ap, subst}
 use mathlib.Core.List.{List, [], _∷_, _++_}
 use native.Mathlib.Omega.{arith}
+use Rattle.turn.specs.Turn.{After}
+use Rattle.engine.specs.Calls.{Ran}
+use Rattle.hall.proofs.Same.{run-same}
 use Rattle.walks.specs.Orders.{orders, lostIn}
 use Rattle.walks.specs.Calls.{notSmall}
 use Rattle.walks.proofs.Lists.{each-all, each-has}
@@ -40,6 +43,15 @@ module _ (o : Opening) (calls : List Call) (turns : List ℕ) where
       let limit : lostSwaps (trace o calls ++ entries (state o calls) then) ≤ mostLost o calls = rw (same-bound, trace-is) at bound in
       omega (arith, limit, lost, of-run)
 
+-- and so it is of the engine's run, which all orders go by
+order-bound :
+    (o : Opening) (calls : List Call) (turns : List ℕ)
+    → lostSwaps (trace o calls) + lostIn (state o calls .floor) (state o calls .board) (state o calls .records) turns ≤ mostLost o calls
+order-bound o calls turns =
+    let s = state o calls in
+    subst (λ (x : After Ran). lostSwaps (trace o calls) + x .handed .totals .lost ≤ mostLost o calls)
+    (run-same (s .floor) (s .records) turns (state-unbroken o calls .reads)) (run-bound o calls turns)
+
 pub orders-from : (o : Opening) (calls : List Call) (depth : ℕ) → notSmall (state o calls .floor) depth ≡ false → OrdersFrom o calls depth
 orders-from o calls depth small =
     let s = state o calls in
@@ -52,5 +64,5 @@ orders-from o calls depth small =
     record {
       accepted = none;
       listed = all;
-      bound = (let one = each-has Bounded Most those (each-all Bounded (run-bound o calls) those) (all .reached) in rw (← one .2) (one .1));
+      bound = (let one = each-has Bounded Most those (each-all Bounded (order-bound o calls) those) (all .reached) in rw (← one .2) (one .1));
     }

@@ -19,13 +19,14 @@ use Rattle.turn.specs.Turn.{After}
 use Rattle.turn.proofs.Sound.{Accepted}
 use Rattle.engine.specs.declared.Floor.{Floor}
 use Rattle.engine.specs.Board.{bucketAt}
-use Rattle.engine.specs.Calls.{Ran, unbegun, recordIn, runFrom, runCall}
-use Rattle.engine.proofs.Stops.{doneBy, next-done, next-refused}
+use Rattle.engine.specs.Calls.{Ran, unbegun, recordIn}
+use Rattle.hall.specs.Calls.{Indexed, indexed, hallRunFrom, hallRun}
+use Rattle.hall.proofs.Stops.{hallDoneBy, next-done, next-refused}
 use Rattle.history.specs.Trace.{Turn, Retiring, Entry, acted, retired, who, By, Continues, Ends, OwnEnd, Some, None, total}
 use Rattle.history.specs.Counts.{oneIf}
 use Rattle.history.specs.InCall.{ownTurns}
 use Rattle.history.specs.Numbers.{OneOf}
-use Rattle.history.specs.History.{State, Call, run, recordOf, runOf, turnedAs, after, stateFrom, traceFrom}
+use Rattle.history.specs.History.{State, Call, run, recordOf, ranBy, turnedAs, after, stateFrom, traceFrom}
 use Rattle.history.specs.Unbroken.{Unbroken}
 use Rattle.history.specs.Cells.{home}
 use Rattle.history.specs.HowLong.{Disturbs, Alone, EndsAlone, GoesOnFor, NeverEndsAlone}
@@ -194,28 +195,28 @@ module _ (A : List ℕ → ℕ → Worker → Type 0) (Q : Type 0) where
     -- ---- a run
 
     module _ (f : Floor) (i : ℕ) (under : i < f .workers) where
-      abbrev stands : After Ran → State
-      stands x = record { board = x .words; floor = f; records = x .handed .records }
+      abbrev stands : Indexed (After Ran) → State
+      stands x = record { board = x .left .words; floor = f; records = x .left .handed .records; index = x .index }
 
       -- after m more turns in a run that stood at x the worker is idle
-      record Idled (m : ℕ) (x y : After Ran) : Type 0 where
-        idles : recordIn (y .handed .records) i ≡ idle
-        within : y .handed .totals .turns ≤ x .handed .totals .turns + m
-        stops : OneOf (0 ∷ 6 ∷ []) (y .handed .stop)
+      record Idled (m : ℕ) (x y : Indexed (After Ran)) : Type 0 where
+        idles : recordIn (y .left .handed .records) i ≡ idle
+        within : y .left .handed .totals .turns ≤ x .left .handed .totals .turns + m
+        stops : OneOf (0 ∷ 6 ∷ []) (y .left .handed .stop)
 
       -- or it is at its call still, and all of them are done
-      record StillBusy (m k : ℕ) (x y : After Ran) : Type 0 where
+      record StillBusy (m k : ℕ) (x y : Indexed (After Ran)) : Type 0 where
         had : A (ownBucket i (stands y)) (k + m) (recordOf (stands y) i)
-        turns : y .handed .totals .turns ≡ x .handed .totals .turns + m
-        stops : y .handed .stop ≡ 0
+        turns : y .left .handed .totals .turns ≡ x .left .handed .totals .turns + m
+        stops : y .left .handed .stop ≡ 0
 
-      abbrev Runs : ℕ → ℕ → After Ran → After Ran → Type 0
+      abbrev Runs : ℕ → ℕ → Indexed (After Ran) → Indexed (After Ran) → Type 0
       Runs m k x y = (Q × Idled m x y) ⊎ StillBusy m k x y
 
       -- an idle worker has no turn
       idle-run :
-          (m : ℕ) (x : After Ran) → Unbroken (stands x) → recordOf (stands x) i ≡ idle → x .handed .stop ≡ 0 → Idled m x (runFrom f (replicate m i) x)
-      unfolding runFrom
+          (m : ℕ) (x : Indexed (After Ran)) → Unbroken (stands x) → recordOf (stands x) i ≡ idle → x .left .handed .stop ≡ 0 → Idled m x (hallRunFrom f (replicate m i) x)
+      unfolding hallRunFrom
       idle-run zero x ok rests stop = record { idles = idle-listed (stands x) i ok under rests; within = omega arith; stops = inl stop }
       idle-run (suc m) x ok rests stop =
           let idles = idle-listed (stands x) i ok under rests in
@@ -224,18 +225,18 @@ module _ (A : List ℕ → ℕ → Worker → Type 0) (Q : Type 0) where
           (record { idles = idles; within = omega arith; stops = inr (inl six) })
 
       -- a turn of a run leaves what the turn of a history does
-      done-stands : (x : After Ran) → turnedAs (stands x) i (done (stands x) i) ≡ stands (doneBy f i x)
+      done-stands : (x : Indexed (After Ran)) → turnedAs (stands x) i (done (stands x) i) ≡ stands (hallDoneBy f i x)
       done-stands x = rw (up-is (stands x) i)
 
       -- a busy one has turns until its call ends
       busy-run :
-          (m k : ℕ) (x : After Ran)
+          (m k : ℕ) (x : Indexed (After Ran))
           → Unbroken (stands x)
           → Known (stands x)
-          → x .handed .stop ≡ 0
+          → x .left .handed .stop ≡ 0
           → A (ownBucket i (stands x)) k (recordOf (stands x) i)
-          → Runs m k x (runFrom f (replicate m i) x)
-      unfolding runFrom
+          → Runs m k x (hallRunFrom f (replicate m i) x)
+      unfolding hallRunFrom
       busy-run zero k x ok known stop had =
           inr (record { had = subst (λ (n : ℕ). A (ownBucket i (stands x)) n (recordOf (stands x) i)) (omega arith) had; turns = omega arith; stops = stop })
       busy-run (suc m) k x ok known stop had =
@@ -243,13 +244,13 @@ module _ (A : List ℕ → ℕ → Worker → Type 0) (Q : Type 0) where
           let act = subst (Turns (stands x) (entry (stands x) i)) (done-stands x) (done-turns (stands x) i (number-is (stands x) ok i none)) in
           let still = subst Unbroken (done-stands x) (turn-unbroken (stands x) ok i (number-is (stands x) ok i none)) in
           rw (next-done f i (replicate m i) x none)
-          (by (turn-went act known k had) (busy-run m (k + 1) (doneBy f i x) still (known-lasts .turns [] [] act known) refl)
-          (λ rests. idle-run m (doneBy f i x) still rests refl))
+          (by (turn-went act known k had) (busy-run m (k + 1) (hallDoneBy f i x) still (known-lasts .turns [] [] act known) refl)
+          (λ rests. idle-run m (hallDoneBy f i x) still rests refl))
         where
-          later : {y : After Ran} → Idled m (doneBy f i x) y → Idled (suc m) x y
+          later : {y : Indexed (After Ran)} → Idled m (hallDoneBy f i x) y → Idled (suc m) x y
           later rests = record { idles = rests .idles; within = omega (arith, rests .within); stops = rests .stops }
 
-          more : {y : After Ran} → Runs m (k + 1) (doneBy f i x) y → Runs (suc m) k x y
+          more : {y : Indexed (After Ran)} → Runs m (k + 1) (hallDoneBy f i x) y → Runs (suc m) k x y
           more (inl rests) = inl (rests .0, later (rests .1))
           more {y} (inr busy) =
               inr (record {
@@ -259,22 +260,26 @@ module _ (A : List ℕ → ℕ → Worker → Type 0) (Q : Type 0) where
               })
 
           by :
-              {e : Turn} {y : After Ran}
-              → Afterwards i k (stands (doneBy f i x)) e
-              → (A (ownBucket i (stands (doneBy f i x))) (k + 1) (recordOf (stands (doneBy f i x)) i) → Runs m (k + 1) (doneBy f i x) y)
-              → (recordOf (stands (doneBy f i x)) i ≡ idle → Idled m (doneBy f i x) y)
+              {e : Turn} {y : Indexed (After Ran)}
+              → Afterwards i k (stands (hallDoneBy f i x)) e
+              → (A (ownBucket i (stands (hallDoneBy f i x))) (k + 1) (recordOf (stands (hallDoneBy f i x)) i) → Runs m (k + 1) (hallDoneBy f i x) y)
+              → (recordOf (stands (hallDoneBy f i x)) i ≡ idle → Idled m (hallDoneBy f i x) y)
               → Runs (suc m) k x y
           by (goes continues had) busy resting = more (busy had)
           by (ended can over rests) busy resting = inl (can, later (resting rests))
 
     -- a run of a worker that is at a call in s
     module _ (s : State) (i : ℕ) (ok : Unbroken s) (known : Known s) (under : i < s .floor .workers) (had : A (ownBucket i s) 0 (recordOf s i)) where
-      run-is : (n : ℕ) → n ≤ 65535 → runOf s (replicate n i) ≡ runFrom (s .floor) (replicate n i) (unbegun (s .board) (s .records) 0)
-      unfolding runCall
+      -- before the first turn
+      abbrev begins : Indexed (After Ran)
+      begins = indexed (s .index) (unbegun (s .board) (s .records) 0)
+
+      run-is : (n : ℕ) → n ≤ 65535 → ranBy s (replicate n i) ≡ hallRunFrom (s .floor) (replicate n i) begins
+      unfolding hallRun
       run-is n few = rw (run-accepted s ok (replicate n i) (omega (arith, length-replicate n i)))
 
-      runs : (n : ℕ) → n ≤ 65535 → Runs (s .floor) i under n 0 (unbegun (s .board) (s .records) 0) (runOf s (replicate n i))
-      runs n few = rw (run-is n few) (busy-run (s .floor) i under n 0 (unbegun (s .board) (s .records) 0) ok known refl had)
+      runs : (n : ℕ) → n ≤ 65535 → Runs (s .floor) i under n 0 begins (ranBy s (replicate n i))
+      runs n few = rw (run-is n few) (busy-run (s .floor) i under n 0 begins ok known refl had)
 
       -- a call that can take so many turns ends within them
       module _ (most : ℕ) (fewer : (b : List ℕ) (k : ℕ) (w : Worker) → A b k w → k < most) (few : most ≤ 65535) where
@@ -283,7 +288,7 @@ module _ (A : List ℕ → ℕ → Worker → Type 0) (Q : Type 0) where
         still-fewer rest (inl over) unended = absurd (unended (over .1))
         still-fewer rest (inr on) unended = fewer _ _ _ (on .1)
 
-        ends-by : Runs (s .floor) i under most 0 (unbegun (s .board) (s .records) 0) (runOf s (replicate most i)) → EndsAlone s i most
+        ends-by : Runs (s .floor) i under most 0 begins (ranBy s (replicate most i)) → EndsAlone s i most
         ends-by (inr busy) = absurd (omega (arith, fewer _ _ _ (busy .had)))
         ends-by (inl rests) =
             record {
@@ -301,7 +306,7 @@ module _ (A : List ℕ → ℕ → Worker → Type 0) (Q : Type 0) where
       module _ (never : Q → ⊥) where
         goes-by :
             (n : ℕ)
-            → Runs (s .floor) i under n 0 (unbegun (s .board) (s .records) 0) (runOf s (replicate n i))
+            → Runs (s .floor) i under n 0 begins (ranBy s (replicate n i))
             → GoesOnFor s i n
         goes-by n (inl rests) = absurd (never (rests .0))
         goes-by n (inr on) =

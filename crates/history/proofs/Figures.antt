@@ -116,9 +116,15 @@ module _ (first : List Call) (s : State) (is : state oneWorker first ≡ s) (res
 
 -- ---- with two lots, and with three
 
--- one bucket with this mark word, keys and values, one worker that is idle, and the last ticket
+-- one bucket with this mark word, keys and values, one worker that is idle, as many valid slots as the last ticket has it, and their bit
 abbrev oneBucket : List ℕ → ℕ → State
-oneBucket bucket last = record { board = bucket; floor = record { workers = 1; buckets = 1; last = last }; records = idle ∷ [] }
+oneBucket bucket last =
+    record {
+      board = bucket;
+      floor = record { workers = 1; buckets = 1; last = last };
+      records = idle ∷ [];
+      index = last ∷ 1 ∷ 0 ∷ 0 ∷ 0 ∷ [];
+    }
 
 -- version 2; marks 1, 1, 0
 abbrev two : State

@@ -6,6 +6,7 @@ pub mod NoValueComesBack
 pub mod Unbroken
 pub mod Unrefused
 pub mod Lots
+pub mod Display
 pub mod AllOrders
 pub mod SameSizes
 pub mod Retirings

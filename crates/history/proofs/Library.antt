@@ -1,5 +1,5 @@
--- What a start, a turn, a retiring and a run leave in a history is what the library promises to leave of the lent board and the lent list. An
--- opening is the same function there and here. Assumes nothing.
+-- What a start, a turn, a retiring and a run leave in a history is what the library promises to leave of the lent board, the lent list and the
+-- lent index. An opening is the same function there and here. Assumes nothing.
 use Prim.Native.Nat.{ℕ}
 use mathlib.Core.List.{List, [], _∷_, nil≢cons, head-eq-of-cons-eq}
 use mathlib.Core.Path.{_≡_, refl, ap, subst, _∙_}
@@ -9,6 +9,7 @@ use Rattle.turn.specs.Turn.{Answer, Refused, Done}
 use Rattle.turn.specs.Turn as Turn
 use Rattle.engine.specs.declared.Seat.{Seat}
 use Rattle.engine.specs.declared.Started.{Started}
+use Rattle.hall.specs.Calls.{indexed}
 use Rattle.floor.specs.Told.{reportTold, turnTold, runTold}
 use Rattle.floor.specs.Calls.{onList, startIn, turnIn, retireIn, runIn}
 use Rattle.history.specs.Trace.{Turn, Entry, acted, IsTurn}
@@ -28,13 +29,13 @@ module _ (s : State) (i : ℕ) where
 
   -- a turn
   pub library-turn :
-      turnIn (s .board) (s .records) (s .floor) i
+      turnIn (s .board) (s .records) (s .index) (s .floor) i
       ≡ Turn.after (after s (turn i) .board) (onList (after s (turn i) .records) (turnTold (turnBy s i .handed .answer)))
   library-turn = refl
 
   -- a retiring
   pub library-retire :
-      retireIn (s .board) (s .records) (s .floor) i
+      retireIn (s .board) (s .records) (s .index) (s .floor) i
       ≡ Turn.after (after s (retire i) .board) (onList (after s (retire i) .records) (retireBy s i .handed .refusal))
   library-retire = refl
 
@@ -42,9 +43,10 @@ module _ (s : State) (turns : List ℕ) where
   -- a run: its totals and its last report are told from its entries
   pub library-run :
       let es = entries s (run turns) in
-      runIn (s .board) (s .records) (s .floor) turns
-      ≡ Turn.after (after s (run turns) .board)
-      (onList (after s (run turns) .records) (runTold (lastReport Turn.noReport es) (countsOf es) (runOf s turns .handed .stop)))
+      runIn (s .board) (s .records) (s .index) (s .floor) turns
+      ≡ indexed (after s (run turns) .index)
+      (Turn.after (after s (run turns) .board)
+      (onList (after s (run turns) .records) (runTold (lastReport Turn.noReport es) (countsOf es) (runOf s turns .handed .stop))))
   library-run = rw (← run-totals s turns, ← run-last s turns)
 
 -- ---- what C is told of a report
@@ -66,7 +68,7 @@ told-numbers r =
 pub library-reports :
     (s : State) (i : ℕ) (e : Turn)
     → turnEntry s i ≡ acted e ∷ []
-    → InNumbers (e .report) (turnIn (s .board) (s .records) (s .floor) i .handed .answer .report)
+    → InNumbers (e .report) (turnIn (s .board) (s .records) (s .index) (s .floor) i .handed .answer .report)
 library-reports s i e = by (turnBy s i .handed .answer)
   where
     by : (a : Answer) → entryOf s i a ≡ acted e ∷ [] → InNumbers (e .report) (turnTold a .report)
@@ -78,14 +80,14 @@ library-reports s i e = by (turnBy s i .handed .answer)
 pub library-refused :
     (s : State) (i number : ℕ)
     → turnBy s i .handed .answer ≡ Refused number
-    → OnlyAction 0 (turnIn (s .board) (s .records) (s .floor) i .handed .answer .report)
+    → OnlyAction 0 (turnIn (s .board) (s .records) (s .index) (s .floor) i .handed .answer .report)
 library-refused s i number is =
     rw is (record { action-is = refl; bucket = refl; before = refl; after = refl; full = refl; ended = refl; answer = refl })
 
 -- what C is told as the last report of a run is what the last entry of the run reports
 pub library-last :
     (s : State) (turns : List ℕ)
-    → InNumbers (lastReport Turn.noReport (entries s (run turns))) (runIn (s .board) (s .records) (s .floor) turns .handed .answer .last)
+    → InNumbers (lastReport Turn.noReport (entries s (run turns))) (runIn (s .board) (s .records) (s .index) (s .floor) turns .left .handed .answer .last)
 library-last s turns = rw (← run-last s turns) (told-numbers _)
 
 -- what C is told as the last report of a run that has done no turn, since it is refused as a whole, stops at once or is empty, is a read, and
@@ -93,7 +95,7 @@ library-last s turns = rw (← run-last s turns) (told-numbers _)
 pub library-none :
     (s : State) (turns : List ℕ)
     → entries s (run turns) ≡ []
-    → OnlyAction 1 (runIn (s .board) (s .records) (s .floor) turns .handed .answer .last)
+    → OnlyAction 1 (runIn (s .board) (s .records) (s .index) (s .floor) turns .left .handed .answer .last)
 unfolding lastReport
 library-none s turns none =
     let last = run-last s turns ∙ ap (lastReport Turn.noReport) none in

@@ -102,7 +102,7 @@ module _ (o : Opening) (calls : List Call) where
   balance =
       omega (arith, all-in closeOf, all-in commitOf, lots-tell (state o calls) (o .plan .version) _ n (history-good o calls .tells))
 
-  counted : countCall (state o calls .board) (state o calls .floor) ≡ Lots (lotsOn (state o calls .board) n)
+  pub counted : countCall (state o calls .board) (state o calls .floor) ≡ Lots (lotsOn (state o calls .board) n)
   unfolding countCall
   counted = rw (count-accepted (state o calls) (state-unbroken o calls), state-buckets o calls)
 

@@ -16,10 +16,14 @@ use Rattle.turn.specs.Asleep.{awake}
 use Rattle.engine.specs.declared.Plan.{Plan}
 use Rattle.engine.specs.Board.{bucketAt, emptyBucket, openedBoard}
 use Rattle.engine.specs.Refusals.{wrongSizes, openNumber}
-use Rattle.engine.specs.Calls.{planned, openCall, blank, recordIn}
+use Rattle.engine.specs.Calls.{planned, blank, recordIn}
+use Rattle.hall.specs.Index.{indexWords}
+use Rattle.hall.specs.Refusals.{hallOpenNumber}
+use Rattle.hall.specs.Calls.{hallOpen}
 use Rattle.engine.specs.Room.{Right}
 use Rattle.engine.proofs.Buckets.{length-opened}
 use Rattle.engine.proofs.Sizes.{right-sizes, right-listed, opens-right}
+use Rattle.hall.proofs.Plain.{open-none, five-open}
 use Rattle.history.specs.History.{State, Opening, opened}
 use Rattle.history.proofs.View.{worker}
 use Rattle.history.proofs.States.{view}
@@ -37,20 +41,21 @@ idle-awake zero = refl
 idle-awake (suc n) = ap (λ (ws : List Worker). idle ∷ ws) (idle-awake n)
 
 module _ (o : Opening) where
-  -- empty buckets at the plan's version, the plan's floor, and idle workers
+  -- empty buckets at the plan's version, the plan's floor, idle workers, and five zeros
   pub opened-is :
       opened o
       ≡ record {
         board = openedBoard (o .plan .buckets) (o .plan .version);
         floor = planned (o .plan);
         records = replicate (length (o .lent .records)) idle;
+        index = replicate indexWords 0;
       }
-  unfolding openCall
+  unfolding hallOpen
   opened-is = rw (eq-eqb _ 0 (o .accepted))
 
   right-sized : wrongSizes (planned (o .plan)) (o .lent .board) (length (o .lent .records)) ≡ false
   unfolding openNumber
-  right-sized = passes _ 0 0 (o .accepted) .0
+  right-sized = passes _ 0 0 (open-none (planned (o .plan)) (o .lent .board) (o .lent .index) (length (o .lent .records)) (o .accepted) .1) .0
 
   -- the plan's numbers of workers and buckets are in range, and the board fits them
   pub opened-right : Right (planned (o .plan)) (o .lent .board)
@@ -93,9 +98,10 @@ blank-accepted :
     → p .workers ≤ 64
     → 1 ≤ p .buckets
     → p .buckets ≤ 256
-    → openNumber (planned p) (replicate (8 * p .buckets) 0) (length (replicate (p .workers) blank)) ≡ 0
+    → hallOpenNumber (planned p) (replicate (8 * p .buckets) 0) (replicate indexWords 0) (length (replicate (p .workers) blank)) ≡ 0
 blank-accepted p some-worker workers some-bucket buckets =
-    opens-right (planned p) _ _
+    five-open (planned p) _ _ _ refl
+    ∙ opens-right (planned p) _ _
     (record {
       some-worker = some-worker;
       workers = workers;
@@ -117,7 +123,7 @@ pub any-opening :
 any-opening w n v some-worker workers some-bucket buckets fits =
     let plan : Plan = record { workers = w; buckets = n; version = v } in (
       record {
-        lent = record { board = replicate (8 * n) 0; floor = planned plan; records = replicate w blank };
+        lent = record { board = replicate (8 * n) 0; floor = planned plan; records = replicate w blank; index = replicate indexWords 0 };
         plan = plan;
         accepted = blank-accepted plan some-worker workers some-bucket buckets;
         version-fits = fits;

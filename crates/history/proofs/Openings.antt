@@ -10,13 +10,16 @@ use lib.ListN.{length}
 use Rattle.mark.proofs.Choices.{passes}
 use Rattle.engine.specs.declared.Plan.{Plan}
 use Rattle.engine.specs.Refusals.{wrongSizes, openNumber}
-use Rattle.engine.specs.Calls.{planned}
+use Rattle.turn.specs.Turn.{After}
+use Rattle.engine.specs.Calls.{Opened, planned}
+use Rattle.hall.specs.Calls.{openedIndex}
 use Rattle.engine.proofs.Sizes.{right-sizes, right-listed, opens-right}
-use Rattle.engine.proofs.Refused.{open-refused}
+use Rattle.hall.proofs.Refused.{hall-open-refused}
+use Rattle.hall.proofs.Plain.{open-none, five-open}
 use Rattle.history.specs.Trace.{Entry}
 use Rattle.history.specs.Cells.{Cells}
 use Rattle.history.specs.Unbroken.{Unbroken}
-use Rattle.history.specs.History.{State, Opening, Call, opened, openedAs, state, stateFrom, traceFrom}
+use Rattle.history.specs.History.{State, Opening, Call, opened, state, stateFrom, traceFrom}
 use Rattle.history.specs.Openings.{Asked, asks, opens, reopenNumber, leaves, turnsBy, leavesAll, turnsByAll}
 use Rattle.history.specs.Openings.{History, stateSince, turnsSince, fromOpening, reopened, goesOn, since, AnyOrder}
 use Rattle.history.proofs.Histories.{stateFrom-then, traceFrom-then}
@@ -27,12 +30,17 @@ use Rattle.history.proofs.NoValueComesBack.{no-value-comes-back}
 use Rattle.history.proofs.Lots.{count-tells}
 use Rattle.history.proofs.HowLong.{how-long}
 use Rattle.history.proofs.Retirings.{retirings}
+use Rattle.history.proofs.Display.{displays}
 use Rattle.history.proofs.Cells.{state-cells}
 use Rattle.history.proofs.Unbroken.{state-unbroken}
 
 -- an opening that is refused leaves everything as it was
 pub opens-refused : (s : State) (plan : Plan) (fits : plan .version < 2 ^ 32) → (reopenNumber s plan ≡ 0 → ⊥) → leaves s (opens plan fits) ≡ s
-opens-refused s plan fits refused = ap openedAs (open-refused (s .board) (s .floor) (s .records) (length (s .records)) plan refused)
+opens-refused s plan fits refused =
+    let left = hall-open-refused (s .board) (s .index) (s .floor) (s .records) (length (s .records)) plan refused in
+    let same = left .0 in
+    let kept = ap (λ (x : After Opened). openedIndex (s .index) (x .handed .refusal)) same ∙ left .1 in
+    λ i. record { board = same i .words; floor = same i .handed .floor; records = same i .handed .records; index = kept i }
 
 -- the turns done before, and those of the history: together these
 pub record Follows (before : List Entry) (h : History) (s : State) (turns : List Entry) : Type 0 where
@@ -97,6 +105,7 @@ any-order o asked =
       reports = reports-chain (h .opening) (h .calls);
       lasting = how-long (h .opening) (h .calls);
       retires = retirings (h .opening) (h .calls);
+      displayed = displays (h .opening) (h .calls);
       cells = subst Cells (sym (all .stands)) (state-cells (h .opening) (h .calls));
       unbroken = subst Unbroken (sym (all .stands)) (state-unbroken (h .opening) (h .calls));
     }
@@ -114,7 +123,8 @@ module _ (o : Opening) (calls : List Call) (plan : Plan) where
   pub opens-same : reopenNumber s plan ≡ 0 → (plan .workers ≡ o .plan .workers) × (plan .buckets ≡ o .plan .buckets)
   unfolding openNumber
   opens-same accepted =
-      let now = passes (wrongSizes (planned plan) (s .board) (length (s .records))) 0 0 accepted .0 in
+      let plain = open-none (planned plan) (s .board) (s .index) (length (s .records)) accepted .1 in
+      let now = passes (wrongSizes (planned plan) (s .board) (length (s .records))) 0 0 plain .0 in
       let words = right-sizes (planned plan) (s .board) _ now .words in
       let was = right-sizes (s .floor) (s .board) _ sized .words in (
         sym (right-listed (planned plan) (s .board) _ now) ∙ right-listed (s .floor) (s .board) _ sized ∙ state-workers o calls,
@@ -127,7 +137,8 @@ module _ (o : Opening) (calls : List Call) (plan : Plan) where
       let fits = right-sizes (s .floor) (s .board) _ sized in
       let same-workers = workers ∙ sym (state-workers o calls) in
       let same-buckets = buckets ∙ sym (state-buckets o calls) in
-      opens-right (planned plan) (s .board) _
+      five-open (planned plan) (s .board) (s .index) (length (s .records)) (state-unbroken o calls .reads .five)
+      ∙ opens-right (planned plan) (s .board) _
       (record {
         some-worker = omega (arith, same-workers, fits .some-worker);
         workers = omega (arith, same-workers, fits .workers);

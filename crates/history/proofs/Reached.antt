@@ -1,10 +1,10 @@
 -- Histories reach every kind of entry that demand 3 speaks of, also between a turn and its moment: trials P6 and P11 and a container that is
 -- retired do, computed turn by turn. Assumes nothing.
 use Prim.Native.Nat.{ℕ}
-use mathlib.Core.Bool.{false}
-use mathlib.Core.List.{List, [], map}
+use mathlib.Core.Bool.{false, xor}
+use mathlib.Core.List.{List, [], _∷_, _++_, map}
 use mathlib.Core.Logic.{inl, Dec·and, Dec·not}
-use mathlib.Core.Path.{_≡_, refl}
+use mathlib.Core.Path.{_≡_, refl, sym, ap, ap₂, _∙_}
 use native.Mathlib.Decide.{ℕ-discrete}
 use native.Mathlib.Omega.{arith}
 use lib.ListN.{length, take, replicate}
@@ -15,6 +15,7 @@ use Rattle.turn.specs.declared.Progress.{Progress}
 use Rattle.turn.specs.declared.Progress.the-variants.{GoesOn, Ended}
 use Rattle.turn.specs.declared.Report.{Report}
 use Rattle.turn.specs.Worker as Record
+use Rattle.turn.specs.Worker.{idle}
 use Rattle.turn.specs.Asleep as Asleep
 use Rattle.turn.specs.Bucket as Bucket
 use Rattle.turn.specs.Places as Places
@@ -22,26 +23,31 @@ use Rattle.turn.specs.Turn as Turned
 use Rattle.turn.specs.Retire as Retire
 use Rattle.engine.specs.Board as Board
 use Rattle.engine.specs.Refusals as Refusals
-use Rattle.engine.specs.Refusals.{openNumber}
 use Rattle.engine.specs.Calls as Calls
 use Rattle.engine.specs.Calls.{planned, blank}
+use Rattle.bits.specs.Bits as Bits
+use Rattle.hall.specs.Index as Index
+use Rattle.hall.specs.Refusals as Hall
+use Rattle.hall.specs.Refusals.{hallOpenNumber}
+use Rattle.hall.specs.Calls as HallCalls
 use Rattle.history.specs.Trace.{Turn, Entry, acted, retired, who, Loses, Claims, Commits, Closes, Frees, ReadsWhole, IsTurn, Changes, Cut, Some, total}
 use Rattle.history.specs.Counts.{lostSwaps, changesIn}
-use Rattle.history.specs.History.{Opening, Call, recordOf, state, trace, turnEntries, stateFrom, traceFrom, sumFrom, inserts, removes}
+use Rattle.history.specs.History.{State, Opening, Call, recordOf, opened, state, trace, turnEntries, stateFrom, traceFrom, sumFrom, inserts, removes}
 use Rattle.history.specs.Moment.{AnothersIn, HasMoment}
 use Rattle.history.specs.Reports.{MadeLose}
 use Rattle.history.specs.Cells.{markWordAt}
-use Rattle.history.specs.Trials.{A, planFor, sleeper, sleeperWords, wordRepeats, repeatedWord, refusedStarts, retiredHolder, claimedAgain}
+use Rattle.history.specs.Trials.{A, planFor, turnsOf, sleeper, sleeperWords, beforeReading, sinceReading, wordRepeats, repeatedWord, refusedStarts, retiredHolder, claimedAgain}
 use Rattle.history.proofs.Cuts.{cut-later, none-nil, SomeTurn, some-turn}
-use Rattle.history.proofs.Found.{cut-by-number, found, found-turn, moment-found}
+use Rattle.history.proofs.Found.{cut-by-number, found, found-turn, moment-found, moment-later}
+use Rattle.history.proofs.Histories.{stateFrom-append, traceFrom-append}
 
 -- ---- the floors
 
--- so many workers and one bucket, opened on a board and a list that are lent in the right sizes, with something on them
-abbrev pub lent : (workers : ℕ) → openNumber (planned (planFor workers)) (replicate 8 1) (length (replicate workers blank)) ≡ 0 → Opening
+-- so many workers and one bucket, opened on a board, a list and an index that are lent in the right sizes, with something on them
+abbrev pub lent : (workers : ℕ) → hallOpenNumber (planned (planFor workers)) (replicate 8 1) (replicate 5 1) (length (replicate workers blank)) ≡ 0 → Opening
 lent workers accepted =
     record {
-      lent = record { board = replicate 8 1; floor = record { workers = 0; buckets = 0; last = 0 }; records = replicate workers blank };
+      lent = record { board = replicate 8 1; floor = record { workers = 0; buckets = 0; last = 0 }; records = replicate workers blank; index = replicate 5 1 };
       plan = planFor workers;
       accepted = accepted;
       version-fits = omega arith;
@@ -49,17 +55,17 @@ lent workers accepted =
 
 -- a floor of one worker
 unfoldable pub oneWorker : Opening
-unfolding Refusals.openNumber Refusals.wrongSizes
+unfolding Hall.hallOpenNumber Refusals.openNumber Refusals.wrongSizes
 oneWorker = lent 1 refl
 
 -- the floor of P6
 unfoldable pub twoWorkers : Opening
-unfolding Refusals.openNumber Refusals.wrongSizes
+unfolding Hall.hallOpenNumber Refusals.openNumber Refusals.wrongSizes
 twoWorkers = lent 2 refl
 
 -- the floor of P11
 unfoldable pub threeWorkers : Opening
-unfolding Refusals.openNumber Refusals.wrongSizes
+unfolding Hall.hallOpenNumber Refusals.openNumber Refusals.wrongSizes
 threeWorkers = lent 3 refl
 
 -- the trace of P6
@@ -74,13 +80,15 @@ repeatedTrace = trace threeWorkers repeatedWord
 unfoldable pub computed : Unit {0}
 unfolding
     ℕ-discrete Dec·and Dec·not oneWorker twoWorkers threeWorkers stateFrom traceFrom sumFrom turnEntries total cut-later cut-by-number some-turn found found-turn moment-found
-    Calls.openCall Calls.startCall Calls.turned Calls.turnCall Calls.retired Calls.retireCall Calls.runFrom Calls.runCall
+    Calls.startCall Calls.turned Calls.retired HallCalls.hallOpen HallCalls.hallTurn HallCalls.hallRetire HallCalls.hallRunFrom HallCalls.hallRun
+    Hall.hallOpenNumber Hall.hallEachNumber Hall.hallTurnNumber Hall.hallRetireNumber Hall.hallRunNumber
+    Index.followed Index.untrue Bits.isSet Bits.withBit xor
     Refusals.wrongFloor Refusals.wrongSizes
     Refusals.openNumber Refusals.startNumber Refusals.eachNumber Refusals.turnNumber Refusals.retireNumber Refusals.runNumber
     Turned.turnRefusal Retire.retireRefusal Record.broken Record.isIdle Record.sound Record.fits Record.mayStand Record.ticketFits Record.heldFits Record.wordFits Asleep.slept
     Bucket.brokenBucket Places.turn Places.lookFound Places.lookEmpty Places.findSlot Places.nextSlot Places.nextKey
     Places.after1 Places.after2 Places.after3 Places.after4 Places.after5 Places.after11 Places.after12
-    Board.openedBoard Word.version Word.markOf Word.byte7 Word.setMark Word.bump Word.firstEmpty Word.wellFormed
+    Board.openedBoard Word.version Word.markOf Word.byte7 Word.setMark Word.countMarks Word.bump Word.firstEmpty Word.wellFormed
 computed = tt
 
 -- ---- every kind of entry
@@ -219,29 +227,71 @@ pub record Repeats : Type 0 where
   pub freed : Some (λ e. AnothersIn (won .turn) e × IsTurn Frees e) (moment .newer)
   pub claimed : Some (λ e. AnothersIn (won .turn) e × IsTurn Claims e) (moment .newer)
 
+-- where A starts: version 1, marks 2, 1, 0; slot 1 has lot 7 on ticket 2, and B, which has found it there, is to give slot 0 back
+abbrev starting : State
+starting =
+    record {
+      board = 1108101562369 ∷ 7 ∷ 7 ∷ 0 ∷ 1 ∷ 2 ∷ 0 ∷ 0 ∷ [];
+      floor = record { workers = 3; buckets = 1; last = 3 };
+      records =
+          record { kind = 2; place = 1; key = 8; ticket = 3; slot = 0; word = 0; held = 3; seen = 0; asleep = 0 }
+          ∷ record { kind = 2; place = 10; key = 7; ticket = 1; slot = 1; word = 1108101562369; held = 0; seen = 2; asleep = 0 }
+          ∷ idle
+          ∷ [];
+      index = 1 ∷ 1 ∷ 0 ∷ 0 ∷ 0 ∷ [];
+    }
+
+-- what is done from there
+abbrev since : List Entry
+since = traceFrom starting sinceReading
+
+abbrev left : State
+left = stateFrom starting sinceReading
+
+-- it is where the calls before lead: they are computed once, and what comes after from there
+starting-is : state threeWorkers beforeReading ≡ starting
+unfolding computed
+starting-is = refl
+
+left-is : state threeWorkers wordRepeats ≡ left
+left-is = stateFrom-append (opened threeWorkers) beforeReading sinceReading ∙ ap (λ (s : State). stateFrom s sinceReading) starting-is
+
+since-is : trace threeWorkers beforeReading ++ since ≡ trace threeWorkers wordRepeats
+since-is =
+    sym
+    (traceFrom-append (opened threeWorkers) beforeReading sinceReading
+    ∙ ap (λ (s : State). trace threeWorkers beforeReading ++ traceFrom s sinceReading) starting-is)
+
+-- A's swap
+abbrev swap : Turn
+swap = record { worker = A; was = recordOf left A; report = report Won GoesOn 1108101562369 564058054983681 }
+
+swap-is : traceFrom left (turnsOf A 1 ∷ []) ≡ acted swap ∷ []
+unfolding computed
+swap-is = refl
+
+-- the trace is what was done before, and then the swap
+swap-last : repeatedTrace ≡ (trace threeWorkers beforeReading ++ since) ++ (acted swap ∷ [])
+swap-last =
+    traceFrom-append (opened threeWorkers) wordRepeats (turnsOf A 1 ∷ [])
+    ∙ ap₂ (λ (es ds : List Entry). es ++ ds) (sym since-is) (ap (λ (s : State). traceFrom s (turnsOf A 1 ∷ [])) left-is ∙ swap-is)
+
 -- §10.11: before A swaps, the mark word is the one that it has read, although others changed it in between; and the swap is won
 pub word-repeats : Repeats
 unfolding computed
 word-repeats =
-    let y : Turn =
+    let m : HasMoment since swap =
+    moment-found swap since 0 (record { own = refl; sees = inl refl; latest = refl; bucket = refl; first = refl; rest = refl }) in
     record {
-      worker = A;
-      was = recordOf (state threeWorkers wordRepeats) A;
-      report = report Won GoesOn 1108101562369 564058054983681;
-    } in
-    let m : HasMoment (trace threeWorkers wordRepeats) y =
-    moment-found y (trace threeWorkers wordRepeats) 29
-    (record { own = refl; sees = inl refl; latest = refl; bucket = refl; first = refl; rest = refl }) in
-    record {
-      won = record { older = trace threeWorkers wordRepeats; turn = y; newer = []; cut = refl; holds = (refl, refl) };
+      won = record { older = trace threeWorkers beforeReading ++ since; turn = swap; newer = []; cut = swap-last; holds = (refl, refl) };
       by = refl;
-      before = refl;
-      read = refl;
-      again = refl;
-      moment = m;
+      before = since-is;
+      read = ap (λ (s : State). recordOf s A .word) left-is;
+      again = ap (λ (s : State). markWordAt s 0) left-is;
+      moment = moment-later swap (trace threeWorkers beforeReading) m;
       reading = refl;
-      freed = found (λ e. AnothersIn y e × IsTurn Frees e) (m .newer) 7 (((λ e. omega arith), refl), (refl, refl));
-      claimed = found (λ e. AnothersIn y e × IsTurn Claims e) (m .newer) 16 (((λ e. omega arith), refl), (refl, refl));
+      freed = found (λ e. AnothersIn swap e × IsTurn Frees e) (m .newer) 7 (((λ e. omega arith), refl), (refl, refl));
+      claimed = found (λ e. AnothersIn swap e × IsTurn Claims e) (m .newer) 16 (((λ e. omega arith), refl), (refl, refl));
     }
 
 -- ---- a container that does not come back

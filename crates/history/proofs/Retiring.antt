@@ -20,12 +20,15 @@ use Rattle.turn.proofs.Effects.{idle-aimed}
 use Rattle.turn.proofs.Retiring.{Retirable, awake-retirable, retiring-moves}
 use Rattle.engine.specs.Board.{bucketOf, bucketAt}
 use Rattle.engine.specs.Refusals.{wrongSizes, retireNumber}
-use Rattle.engine.specs.Calls.{vacatedOn, retireCall}
+use Rattle.engine.specs.Calls.{vacatedOn}
+use Rattle.hall.specs.Refusals.{hallRetireNumber}
+use Rattle.hall.specs.Calls.{hallRetire}
 use Rattle.engine.specs.Calls as Calls
 use Rattle.engine.specs.Room.{Right}
 use Rattle.engine.proofs.Sleeping.{record-awake, put-awake}
 use Rattle.engine.proofs.Sizes.{right-listed}
 use Rattle.engine.proofs.Retiring.{retire-accepted, vacated-word, vacated-others}
+use Rattle.hall.proofs.Plain.{retire-none}
 use Rattle.history.specs.Trace.{Retiring, retired}
 use Rattle.history.specs.Counts.{isChange}
 use Rattle.history.specs.History.{State, listedOf, recordOf, retireBy, retiredAs, retireEntry}
@@ -43,7 +46,7 @@ module _ (s : State) (i : ℕ) where
 
   -- its number of refusal
   abbrev pub number : ℕ
-  number = retireNumber (s .floor) (s .board) (length (s .records)) i (listedOf s i)
+  number = hallRetireNumber (s .floor) (s .board) (s .index) (length (s .records)) i (listedOf s i)
 
   -- what it leaves and hands back where it is done
   abbrev pub done : After Retired
@@ -54,18 +57,22 @@ module _ (s : State) (i : ℕ) where
 
   -- done or refused, it is this
   pub retired-is : retireBy s i ≡ cond (eqb number 0) done (after (s .board) (notRetired number (listedOf s i)))
-  unfolding retireCall Calls.retired
+  unfolding hallRetire Calls.retired
   retired-is = rw (record-awake (s .records) i)
 
-  -- where it is not refused, there is a record for each worker
+  -- where it is not refused, the engine does not refuse it
+  plain : number ≡ 0 → retireNumber (s .floor) (s .board) (length (s .records)) i (listedOf s i) ≡ 0
+  plain = retire-none (s .floor) (s .board) (s .index) i (listedOf s i) (length (s .records))
+
+  -- so there is a record for each worker
   listed : number ≡ 0 → length (s .records) ≡ s .floor .workers
   unfolding retireNumber
-  listed none = right-listed (s .floor) (s .board) _ (passes (wrongSizes (s .floor) (s .board) _) 0 _ none .0)
+  listed none = right-listed (s .floor) (s .board) _ (passes (wrongSizes (s .floor) (s .board) _) 0 _ (plain none) .0)
 
   -- and it is accepted, on a board that fits the floor, for a worker that there is
   pub retire-known : number ≡ 0 → Right (s .floor) (s .board) × Retirable (bucketAt (s .board) b) w × (i < s .floor .workers)
   retire-known none =
-      let known = retire-accepted (s .floor) (s .board) (length (s .records)) i (listedOf s i) none in
+      let known = retire-accepted (s .floor) (s .board) (length (s .records)) i (listedOf s i) (plain none) in
       (known .0, rw (record-awake (s .records) i) (awake-retirable _ _ (known .1)), known .2)
 
   -- and it is done: it acts on what demand 3 goes by
@@ -96,4 +103,4 @@ module _ (s : State) (i : ℕ) where
       let Goes : After Retired → Type 0 = λ x. Walk (s .floor .buckets) (view s) (retireEntry s i x) 0 (view (retiredAs s i x)) in
       subst Goes (sym retired-is)
       (by-cases Goes (eqb number 0) done (after (s .board) (notRetired number (listedOf s i)))
-      (λ is. acts (retire-acts (eqb-true number 0 is)) stays) (λ isnot. rw isnot (same-walk (s .floor .buckets) s i)))
+      (λ is. acts (retire-acts (eqb-true number 0 is)) stays) (λ isnot. rw isnot (same-walk (s .floor .buckets) s i (s .index))))

@@ -14,16 +14,17 @@ use Rattle.turn.specs.declared.Report.{Report}
 use Rattle.turn.specs.Turn.{Done, Turned, After, noReport}
 use Rattle.turn.specs.Turn as Turn
 use Rattle.engine.specs.declared.Totals.{Totals}
-use Rattle.engine.specs.Refusals.{wrongSizes, turnNumber, runNumber}
-use Rattle.engine.specs.Calls.{Ran, tallied, noTurns, standing, unbegun, goOn, turned, turnCall, runFrom, runCall}
-use Rattle.engine.proofs.Stops.{run-turn-is-turn}
-use Rattle.engine.proofs.Keeps.{turn-keeps}
+use Rattle.engine.specs.Refusals.{wrongListed, wrongSizes, runNumber}
+use Rattle.engine.specs.Calls.{Ran, tallied, noTurns, standing, unbegun, turned}
+use Rattle.hall.specs.Refusals.{hallTurnNumber, hallRunNumber}
+use Rattle.hall.specs.Calls.{hallTurn, Indexed, indexed, hallGoOn, hallRunFrom, hallRun}
+use Rattle.hall.proofs.Plain.{run-none, hall-run-turn, hall-turn-keeps, index-long}
 use Rattle.engine.proofs.Sleeping.{record-awake, left-long}
 use Rattle.engine.proofs.Tallies.{losses-lost, losses-other, changes-change, changes-other}
 use Rattle.history.specs.Trace.{Turn, Entry, acted, retired, total}
 use Rattle.history.specs.Reports.{lastReport}
 use Rattle.history.specs.Counts.{isLost, isChange, turnsIn, lostSwaps, changesIn, fullRounds, countsOf}
-use Rattle.history.specs.History.{State, Opening, Call, turn, run, opened, seatOf, listedOf, turnBy, runOf, turnedAs, ranAs, after}
+use Rattle.history.specs.History.{State, Opening, Call, turn, run, opened, seatOf, listedOf, turnBy, ranBy, runOf, turnedAs, ranAs, after}
 use Rattle.history.specs.History.{entryOf, andThen, turnEntries, entries, stateFrom, traceFrom, state, trace}
 use Rattle.history.proofs.Counts.{one-is}
 use Rattle.history.proofs.Histories.{stateFrom-append, traceFrom-append}
@@ -36,35 +37,37 @@ counted t [] = t
 counted t (acted e ∷ es) = counted (tallied (e .was .place) (e .report) t) es
 counted t (retired r ∷ es) = counted t es
 
--- the floor, the board and the list of records fit together
+-- the floor, the board, the list of records and the index fit together
 abbrev RightSizes : State → Type 0
-RightSizes s = wrongSizes (s .floor) (s .board) (length (s .records)) ≡ false
+RightSizes s = (wrongSizes (s .floor) (s .board) (length (s .records)) ≡ false) × (length (s .index) ≡ 5)
 
 -- turns from s, with these totals and this report before them, came to x with these entries, which are turns: as many are done as there are
 -- entries
-record Follows (s : State) (turns : List ℕ) (t : Totals) (r : Report) (x : After Ran) (es : List Entry) : Type 0 where
-  left : ranAs s x ≡ stateFrom s (map turn (take (length es) turns))
+record Follows (s : State) (turns : List ℕ) (t : Totals) (r : Report) (x : Indexed (After Ran)) (es : List Entry) : Type 0 where
+  leaves : ranAs s x ≡ stateFrom s (map turn (take (length es) turns))
   did : es ≡ traceFrom s (map turn (take (length es) turns))
   turns-all : turnsIn es ≡ length es
-  totals : x .handed .totals ≡ counted t es
-  last : x .handed .last ≡ lastReport r es
+  totals : x .left .handed .totals ≡ counted t es
+  last : x .left .handed .last ≡ lastReport r es
 
 -- no turn is done
 none-follow :
     (s : State) (turns : List ℕ) (t : Totals) (r : Report) (number : ℕ)
-    → Follows s turns t r (standing (s .board) (s .records) t r number) []
+    → Follows s turns t r (indexed (s .index) (standing (s .board) (s .records) t r number)) []
 unfolding stateFrom traceFrom lastReport total
-none-follow s turns t r number = record { left = refl; did = refl; turns-all = refl; totals = refl; last = refl }
+none-follow s turns t r number = record { leaves = refl; did = refl; turns-all = refl; totals = refl; last = refl }
 
 -- a turn keeps the sizes
 still-right : (s : State) (i : ℕ) → RightSizes s → RightSizes (turnedAs s i (turnBy s i))
 unfolding wrongSizes
-still-right s i right = rw (left-long (s .records) i (turnBy s i .handed .worker) (turnBy s i .handed .answer), turn-keeps (s .board) (seatOf s i) (listedOf s i) .long) right
+still-right s i right =
+    (rw (left-long (s .records) i (turnBy s i .handed .worker) (turnBy s i .handed .answer), hall-turn-keeps (s .board) (s .index) (seatOf s i) (listedOf s i) .long) (right .0), index-long (s .index) (turnBy s i .handed .answer) ∙ right .1)
 
 -- how they come out from a state, with any totals and any report before them
 abbrev Turns : State → List ℕ → Type 0
 Turns s turns =
-    (t : Totals) (r : Report) → Follows s turns t r (runFrom (s .floor) turns (standing (s .board) (s .records) t r 0)) (turnEntries s turns)
+    (t : Totals) (r : Report)
+    → Follows s turns t r (hallRunFrom (s .floor) turns (indexed (s .index) (standing (s .board) (s .records) t r 0))) (turnEntries s turns)
 
 module _ (s : State) (i : ℕ) (turns : List ℕ) where
   -- how they come out where the turn of worker i, the first, came to x
@@ -74,7 +77,7 @@ module _ (s : State) (i : ℕ) (turns : List ℕ) where
       → Turns (turnedAs s i x) turns
       → (t : Totals) (last : Report)
       → Follows s (i ∷ turns) t last
-      (goOn (runFrom (s .floor) turns) i (listedOf s i .place) (x .words) (x .handed .worker) (x .handed .answer)
+      (hallGoOn (hallRunFrom (s .floor) turns) i (listedOf s i .place) (x .words) (s .index) (x .handed .worker) (x .handed .answer)
       (record { records = s .records; totals = t; last = last; stop = 0 }))
       (andThen (entryOf s i (x .handed .answer)) (turnEntries (turnedAs s i x) turns))
 
@@ -86,7 +89,7 @@ module _ (s : State) (i : ℕ) (turns : List ℕ) where
       let next : State = turnedAs s i (Turn.after board (record { worker = w; answer = Done r })) in
       let done : List Call = map turn (take (length (turnEntries next turns)) turns) in
       record {
-        left = rest .left ∙ ap (λ x. stateFrom (turnedAs s i x) done) (sym is);
+        leaves = rest .leaves ∙ ap (λ x. stateFrom (turnedAs s i x) done) (sym is);
         did =
             ap (λ (es : List Entry). entryOf s i (Done r) ++ es) (rest .did)
             ∙ ap (λ x. entryOf s i (x .handed .answer) ++ traceFrom (turnedAs s i x) done) (sym is);
@@ -96,17 +99,17 @@ module _ (s : State) (i : ℕ) (turns : List ℕ) where
       }
 
   first : First (turnBy s i)
-  unfolding turnCall turned
+  unfolding hallTurn turned
   first =
-      by-cases First (eqb (turnNumber (s .floor) (s .board) (length (s .records)) i (listedOf s i)) 0) _ _
+      by-cases First (eqb (hallTurnNumber (s .floor) (s .board) (s .index) (length (s .records)) i (listedOf s i)) 0) _ _
       (λ is. first-done _ _ _) (λ isnot same others t last. none-follow s (i ∷ turns) t last _)
 
   more : RightSizes s → Turns (turnedAs s i (turnBy s i)) turns → Turns s (i ∷ turns)
-  unfolding runFrom turnEntries
-  more right others = rw (run-turn-is-turn (s .board) (seatOf s i) (listedOf s i) right) (first refl others)
+  unfolding hallRunFrom turnEntries
+  more right others = rw (hall-run-turn (s .board) (s .index) (seatOf s i) (listedOf s i) (right .0) (right .1)) (first refl others)
 
 turns-follow : (s : State) (turns : List ℕ) → RightSizes s → Turns s turns
-unfolding runFrom turnEntries
+unfolding hallRunFrom turnEntries
 turns-follow s [] right = λ t r. none-follow s [] t r 0
 turns-follow s (i ∷ turns) right = more s i turns right (turns-follow (turnedAs s i (turnBy s i)) turns (still-right s i right))
 
@@ -115,20 +118,22 @@ turns-follow s (i ∷ turns) right = more s i turns right (turns-follow (turnedA
 module _ (s : State) (turns : List ℕ) where
   -- its number of refusal
   abbrev number : ℕ
-  number = runNumber (s .floor) (s .board) (length (s .records)) turns
+  number = hallRunNumber (s .floor) (s .board) (s .index) (length (s .records)) turns
 
   either-follows :
       (t : Bool)
       → eqb number 0 ≡ t
       → Follows s turns noTurns noReport
-      (cond t (runFrom (s .floor) turns (unbegun (s .board) (s .records) 0)) (unbegun (s .board) (s .records) number))
+      (cond t (hallRunFrom (s .floor) turns (indexed (s .index) (unbegun (s .board) (s .records) 0))) (indexed (s .index) (unbegun (s .board) (s .records) number)))
       (cond t (turnEntries s turns) [])
   unfolding runNumber wrongSizes
-  either-follows true is = turns-follow s turns (passes _ _ _ (eqb-true _ _ is) .0) noTurns noReport
+  either-follows true is =
+      let known = run-none (s .floor) (s .board) (s .index) (length (s .records)) turns (eqb-true number 0 is) in
+      turns-follow s turns (passes (wrongListed (s .floor) (length (s .board)) (length (s .records))) 0 _ (known .1) .0, known .0) noTurns noReport
   either-follows false isnot = none-follow s turns noTurns noReport _
 
-  run-follows : Follows s turns noTurns noReport (runOf s turns) (entries s (run turns))
-  unfolding runCall
+  run-follows : Follows s turns noTurns noReport (ranBy s turns) (entries s (run turns))
+  unfolding hallRun
   run-follows = either-follows _ refl
 
 -- ---- what it counts
@@ -200,7 +205,7 @@ module _ (s : State) (turns : List ℕ) where
 
   -- a run leaves the state that its turns leave, called one by one, as many as it reports as done
   pub run-state : after s (run turns) ≡ stateFrom s (map turn (take (runOf s turns .handed .totals .turns) turns))
-  run-state = rw run-turns (run-follows s turns .left)
+  run-state = rw run-turns (run-follows s turns .leaves)
 
   -- and its entries are theirs
   pub run-trace : entries s (run turns) ≡ traceFrom s (map turn (take (runOf s turns .handed .totals .turns) turns))

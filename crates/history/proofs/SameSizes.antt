@@ -11,7 +11,7 @@ use Rattle.engine.specs.declared.Floor.{Floor}
 use Rattle.engine.specs.declared.Started.{Started}
 use Rattle.engine.specs.Refusals.{startNumber}
 use Rattle.engine.specs.Calls.{planned, spending, startCall}
-use Rattle.history.specs.History.{State, Opening, Call, look, insert, remove, turn, retire, run, show, count, orders, opened, listedOf, seatOf}
+use Rattle.history.specs.History.{State, Opening, Call, look, insert, remove, turn, retire, run, show, count, orders, askTotal, askNext, opened, listedOf, seatOf}
 use Rattle.history.specs.History.{after, stateFrom, state}
 use Rattle.history.proofs.Opened.{opened-is}
 
@@ -36,6 +36,8 @@ module _ (size : Floor → ℕ) (other : (f : Floor) (t : ℕ) → size (spendin
   call-size s (show lot) = refl
   call-size s count = refl
   call-size s (orders depth) = refl
+  call-size s askTotal = refl
+  call-size s (askNext from) = refl
 
   calls-size : (s : State) (calls : List Call) → size (stateFrom s calls .floor) ≡ size (s .floor)
   unfolding stateFrom

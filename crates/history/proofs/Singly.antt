@@ -4,7 +4,7 @@ use mathlib.Core.List.{List, [], _∷_, _++_, map, append-nil}
 use mathlib.Core.Path.{_≡_, refl, sym, ap, ap₂, _∙_}
 use lib.ListN.{take}
 use Rattle.history.specs.Trace.{Entry}
-use Rattle.history.specs.History.{State, Opening, Call, look, insert, remove, turn, retire, run, show, count, orders, opened, runOf, after}
+use Rattle.history.specs.History.{State, Opening, Call, look, insert, remove, turn, retire, run, show, count, orders, askTotal, askNext, opened, runOf, after}
 use Rattle.history.specs.History.{entries, stateFrom, traceFrom, state, trace}
 use Rattle.history.specs.Singly.{single, singlyFrom, singly, NoRuns}
 use Rattle.history.proofs.Histories.{stateFrom-append, traceFrom-append}
@@ -38,6 +38,8 @@ comes s (run turns) =
 comes s (show lot) = record { to-state = refl; to-trace = refl; no-run = tt }
 comes s count = record { to-state = refl; to-trace = refl; no-run = tt }
 comes s (orders depth) = record { to-state = refl; to-trace = refl; no-run = tt }
+comes s askTotal = record { to-state = refl; to-trace = refl; no-run = tt }
+comes s (askNext from) = record { to-state = refl; to-trace = refl; no-run = tt }
 
 -- ---- calls
 
@@ -52,6 +54,8 @@ no-runs-append (run turns ∷ cs) ds none more = none
 no-runs-append (show lot ∷ cs) ds none more = no-runs-append cs ds none more
 no-runs-append (count ∷ cs) ds none more = no-runs-append cs ds none more
 no-runs-append (orders depth ∷ cs) ds none more = no-runs-append cs ds none more
+no-runs-append (askTotal ∷ cs) ds none more = no-runs-append cs ds none more
+no-runs-append (askNext from ∷ cs) ds none more = no-runs-append cs ds none more
 
 from-state : (s : State) (calls : List Call) → stateFrom s (singlyFrom s calls) ≡ stateFrom s calls
 unfolding stateFrom singlyFrom

@@ -24,7 +24,7 @@ use Rattle.engine.specs.Calls.{blank, recordIn, spending, startCall}
 use Rattle.engine.proofs.Sleeping.{own-after, other-after}
 use Rattle.history.specs.Trace.{Turn, Retiring, Entry, acted, retired, who, By, None, Continues, total}
 use Rattle.history.specs.Counts.{isTurn, oneIf, turnsIn}
-use Rattle.history.specs.History.{State, Opening, Call, look, insert, remove, turn, retire, run, show, count, orders, opened, listedOf, seatOf, runOf}
+use Rattle.history.specs.History.{State, Opening, Call, look, insert, remove, turn, retire, run, show, count, orders, askTotal, askNext, opened, listedOf, seatOf, runOf}
 use Rattle.history.specs.History.{startedAs, after, entries, stateFrom, traceFrom, state}
 use Rattle.history.specs.Asleep.{sleptThrough, startedOn, startsOn, asleepFrom, Sleeps}
 use Rattle.history.proofs.Counts.{total-append}
@@ -273,6 +273,8 @@ call-if i n s (run turns) old =
 call-if i n s (show lot) old = old
 call-if i n s count old = old
 call-if i n s (orders depth) old = old
+call-if i n s askTotal old = old
+call-if i n s (askNext from) old = old
 
 -- calls
 calls-if : (i n : ℕ) (s : State) (cs : List Call) → If s i n → If (stateFrom s cs) i (asleepFrom i n s cs)
@@ -315,6 +317,8 @@ starts-asleep i s (run turns) = not-both false refl
 starts-asleep i s (show lot) = not-both false refl
 starts-asleep i s count = not-both false refl
 starts-asleep i s (orders depth) = not-both false refl
+starts-asleep i s askTotal = not-both false refl
+starts-asleep i s (askNext from) = not-both false refl
 
 -- ---- histories
 

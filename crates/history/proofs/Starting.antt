@@ -137,4 +137,4 @@ module _ (s : State) (i : ℕ) {late : Bool} {v : Worker} {g : Floor} (fresh : F
   start-walk n =
       by-cases (λ (x : Started). Walk n (view s) [] (left v * begun 1 x) (view (startedAs s i x))) (eqb number 0) taken refused
       (λ is. recount _ _ (omega arith) (starts (accepted-starts (eqb-true _ 0 is)) stays))
-      (λ isnot. rw isnot (recount 0 _ (omega arith) (same-walk n s i)))
+      (λ isnot. rw isnot (recount 0 _ (omega arith) (same-walk n s i (s .index))))

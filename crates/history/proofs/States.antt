@@ -18,9 +18,9 @@ view s = record { marks = λ b. cell (bucketAt (s .board) b) markCell; records =
 
 -- a worker's record put back as it was is no change
 pub same-walk :
-    (n : ℕ) (s : State) (i : ℕ)
-    → Walk n (view s) [] 0 (view (record { board = s .board; floor = s .floor; records = set (s .records) i (listedOf s i) }))
-same-walk n s i = rw (set-getD (s .records) i blank) stays
+    (n : ℕ) (s : State) (i : ℕ) (index : List ℕ)
+    → Walk n (view s) [] 0 (view (record { board = s .board; floor = s .floor; records = set (s .records) i (listedOf s i); index = index }))
+same-walk n s i index = rw (set-getD (s .records) i blank) stays
 
 -- a walk with its changes counted in another way
 pub recount : {n : ℕ} {s t : View} {es : List Entry} (j k : ℕ) → j ≡ k → Walk n s es j t → Walk n s es k t

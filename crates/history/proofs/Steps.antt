@@ -28,7 +28,7 @@ use Rattle.engine.specs.Refusals.{spent, startNumber}
 use Rattle.engine.specs.Calls.{blank, spending, startCall, afterTurn}
 use Rattle.engine.proofs.Retiring.{vacated-nothing, vacated-cells}
 use Rattle.history.specs.Trace.{Turn, Retiring, Entry, acted, retired}
-use Rattle.history.specs.History.{State, Call, look, insert, remove, turn, retire, run, show, count, orders, listedOf, recordOf, seatOf, runOf}
+use Rattle.history.specs.History.{State, Call, look, insert, remove, turn, retire, run, show, count, orders, askTotal, askNext, listedOf, recordOf, seatOf, runOf}
 use Rattle.history.specs.History.{startedAs, turnedAs, retiredAs, retireEntry, after, entryOf, turnEntry, entries, stateFrom, traceFrom}
 use Rattle.history.specs.Values.{spentBy, ticketsFrom}
 use Rattle.history.proofs.View.{Starts, Acts}
@@ -243,6 +243,8 @@ module _ (P : State → List Entry → List ℕ → Type 0) where
     call-lasts s (show lot) past ts h = rw (append-nil past, append-nil ts) h
     call-lasts s count past ts h = rw (append-nil past, append-nil ts) h
     call-lasts s (orders depth) past ts h = rw (append-nil past, append-nil ts) h
+    call-lasts s askTotal past ts h = rw (append-nil past, append-nil ts) h
+    call-lasts s (askNext from) past ts h = rw (append-nil past, append-nil ts) h
 
     -- what every accepted start, every turn done and every retiring done keep, calls one after another keep
     pub calls-last :

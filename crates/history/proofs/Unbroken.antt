@@ -1,16 +1,16 @@
--- An opened board is unbroken, and every call keeps it so, accepted or refused. Assumes nothing.
+-- An opened board is unbroken and its index the full reading, and every call keeps it so, accepted or refused. Assumes nothing.
 use Prim.Native.Nat.{ℕ, _^_, _<_}
 use mathlib.Core.Bool.{Bool, false}
 use mathlib.Core.List.{List, [], _∷_}
 use mathlib.Core.Logic.{inl, inr}
-use mathlib.Core.Path.{_≡_, refl, subst}
+use mathlib.Core.Path.{_≡_, refl, sym, subst, _∙_}
 use native.Mathlib.Decide.{ℕ-discrete}
 use native.Mathlib.Omega.{arith}
 use lib.Dec.{eqb}
 use lib.ListN.{length, set, length-set, length-replicate, getD-replicate}
 use lib.Seq.{getD-set-same, getD-set-other}
 use borrow.Author.Tests.{eqb-true, eqb-false, leb-false}
-use Rattle.mark.specs.Word.{byte7}
+use Rattle.mark.specs.Word.{byte7, countMarks}
 use Rattle.mark.proofs.Choices.{by-cases, passes}
 use Rattle.mark.proofs.WellFormed.{well-formed}
 use Rattle.turn.specs.declared.Worker.{Worker}
@@ -23,16 +23,23 @@ use Rattle.turn.proofs.Asleep.{slept-broken}
 use Rattle.turn.proofs.Kept.{idle-kept, look-kept, insert-kept, remove-kept}
 use Rattle.engine.specs.declared.Floor.{Floor}
 use Rattle.engine.specs.declared.Started.{Started}
-use Rattle.engine.specs.Board.{emptyBucket}
-use Rattle.engine.specs.Refusals.{wrongSizes, openNumber, startNumber, eachNumber, turnNumber, retireNumber, runNumber}
-use Rattle.engine.specs.Calls.{Ran, planned, startCall, turned, afterTurn, recordsLeft, retired, retireCall, unbegun, blank, recordIn, goOn, runFrom, runCall}
-use Rattle.engine.proofs.Sizes.{right-listed}
+use Rattle.engine.specs.Board.{emptyBucket, openedBoard}
+use Rattle.engine.specs.Refusals.{wrongSizes, openNumber, startNumber, turnNumber}
+use Rattle.engine.specs.Calls.{Ran, planned, startCall, turned, afterTurn, recordsLeft, retired, unbegun, blank, recordIn}
+use Rattle.engine.proofs.Sizes.{right-sizes, right-listed}
 use Rattle.engine.proofs.Buckets.{length-opened}
 use Rattle.engine.proofs.Turns.{own}
 use Rattle.engine.proofs.Sleeping.{left-long, own-after, other-after}
-use Rattle.engine.proofs.Keeps.{Keeps, each-keeps, turn-keeps}
+use Rattle.engine.proofs.Keeps.{Keeps, each-accepted, turn-accepted}
 use Rattle.engine.proofs.Retiring.{retire-accepted, vacated-board-long, vacated-unbroken}
-use Rattle.history.specs.History.{State, Opening, Call, look, insert, remove, turn, retire, run, show, count, orders, opened, listedOf, seatOf, runOf}
+use Rattle.hall.specs.Refusals.{hallEachNumber, hallRetireNumber, hallRunNumber}
+use Rattle.hall.specs.Calls.{hallTurn, indexLeft, hallRetire, retiredIndex, Indexed, indexed, hallGoOn, hallRunFrom, hallRun}
+use Rattle.hall.specs.Reading.{Reads}
+use Rattle.hall.proofs.Reading.{reads-nothing}
+use Rattle.hall.proofs.Plain.{open-none, each-none, turn-none, retire-none, hall-turn-keeps, hall-each-keeps}
+use Rattle.hall.proofs.Kept.{reads-turned, reads-retired}
+use Rattle.hall.proofs.Same.{turn-same-number}
+use Rattle.history.specs.History.{State, Opening, Call, look, insert, remove, turn, retire, run, show, count, orders, askTotal, askNext, opened, listedOf, seatOf, turnBy, ranBy, runOf}
 use Rattle.history.specs.History.{retireBy, startedAs, turnedAs, retiredAs, ranAs, after, stateFrom, state}
 use Rattle.history.specs.Numbers.{OneOf}
 use Rattle.history.specs.Unbroken.{Unbroken}
@@ -40,7 +47,7 @@ use Rattle.history.proofs.Opened.{opened-is, opened-right, opened-bucke
 use Rattle.history.proofs.Beginning.{no-mark}
 use Rattle.history.proofs.Starting.{not-refused}
 use Rattle.history.proofs.Acting as Acting
-use Rattle.history.proofs.Unrefused.{each-numbers, run-numbers}
+use Rattle.history.proofs.Unrefused.{each-index, each-numbers, run-numbers}
 
 -- ---- the opening
 
@@ -51,18 +58,27 @@ empty-unbroken v fits =
     whole-not-broken (emptyBucket v)
     (record { eight = refl; formed = well-formed v (λ i slot. omega (arith, no-mark v fits i)) (omega arith); spare = refl })
 
+-- and nothing is valid in it
+nothing-valid : (v : ℕ) → v < 2 ^ 32 → countMarks 1 v ≡ 0
+unfolding countMarks
+nothing-valid v fits = rw (no-mark v fits 0, no-mark v fits 1, no-mark v fits 2)
+
 -- an opening leaves nothing broken, whatever it was lent
 opened-unbroken : (o : Opening) → Unbroken (opened o)
 unfolding openNumber wrongSizes
 opened-unbroken o =
     let n = length (o .lent .records) in
-    let sized : wrongSizes (planned (o .plan)) (o .lent .board) n ≡ false = passes _ 0 0 (o .accepted) .0 in
+    let sized : wrongSizes (planned (o .plan)) (o .lent .board) n ≡ false =
+    passes _ 0 0 (open-none (planned (o .plan)) (o .lent .board) (o .lent .index) n (o .accepted) .1) .0 in
     let all = right-listed (planned (o .plan)) (o .lent .board) n sized in
     rw (opened-is o)
     (record {
       sized = rw (length-replicate n idle, length-opened (o .plan .version) (o .plan .buckets)) (rw (opened-right o .words) at sized);
       records = λ i under. rw (getD-replicate n i idle blank (omega (arith, all))) idle-kept;
       buckets = λ b under. rw (opened-bucket (o .plan .buckets) (o .plan .version) b under) (empty-unbroken _ (o .version-fits));
+      reads =
+          reads-nothing (openedBoard (o .plan .buckets) (o .plan .version)) (o .plan .buckets) (opened-right o .buckets)
+          (λ b under. rw (opened-bucket (o .plan .buckets) (o .plan .version) b under) (nothing-valid _ (o .version-fits)));
     })
 
 -- ---- one record more
@@ -88,13 +104,14 @@ module _ (s : State) (ok : Unbroken s) (i : ℕ) where
       → g .workers ≡ s .floor .workers
       → g .buckets ≡ s .floor .buckets
       → (i < s .floor .workers → broken v ≡ false)
-      → Unbroken (record { board = s .board; floor = g; records = set (s .records) i v })
+      → Unbroken (record { board = s .board; floor = g; records = set (s .records) i v; index = s .index })
   unfolding wrongSizes
   seated-unbroken v g workers buckets kept =
       record {
         sized = rw (workers, buckets, length-set (s .records) i v) (ok .sized);
         records = λ j under. set-unbroken v kept j (omega (arith, workers, under));
         buckets = λ b under. ok .buckets b (omega (arith, buckets, under));
+        reads = rw buckets (ok .reads);
       }
 
   -- so a start keeps a state unbroken, accepted or refused
@@ -128,75 +145,97 @@ module _ (s : State) (ok : Unbroken s) (i : ℕ) where
       by (no other) = rw (other-after (s .records) i w j other, slept-broken (recordIn (s .records) j)) (ok .records j under)
 
   -- what a turn leaves is unbroken, since it keeps the board and the record so
-  turned-unbroken : (b : ℕ) (x : After Turned) → Keeps (s .board) b (listedOf s i) x → Unbroken (turnedAs s i x)
+  turned-unbroken :
+      (b : ℕ) (x : After Turned)
+      → Keeps (s .board) b (listedOf s i) x
+      → Reads (x .words) (s .floor .buckets) (indexLeft (s .index) (x .handed .answer))
+      → Unbroken (turnedAs s i x)
   unfolding wrongSizes
-  turned-unbroken b x keeps =
+  turned-unbroken b x keeps reads =
       record {
         sized = rw (keeps .long, left-long (s .records) i (x .handed .worker) (x .handed .answer)) (ok .sized);
         records = left-unbroken (x .handed .worker) (x .handed .answer) (λ under. keeps .sound (ok .records i under));
         buckets = λ b under. keeps .buckets b (ok .buckets b under);
+        reads = reads;
       }
 
   -- ---- a retiring
 
   -- a retiring keeps a state unbroken, done or refused
   retire-unbroken : Unbroken (retiredAs s i (retireBy s i))
-  unfolding retireCall retired wrongSizes
+  unfolding hallRetire retired wrongSizes
   retire-unbroken =
       let w = listedOf s i in
-      let number = retireNumber (s .floor) (s .board) (length (s .records)) i w in
-      by-cases (λ (x : After Retired). Unbroken (retiredAs s i x)) (eqb number 0) _ _
-      (λ is.
-      let known = retire-accepted (s .floor) (s .board) (length (s .records)) i w (eqb-true number 0 is) in
+      let f = s .floor in
+      let number = hallRetireNumber f (s .board) (s .index) (length (s .records)) i w in
+      let plain = retire-none f (s .board) (s .index) i w (length (s .records)) in
+      let reads = reads-retired f (s .board) (s .index) w (ok .reads) number (λ none. retire-accepted f (s .board) (length (s .records)) i w (plain none) .0) in
+      by-cases (λ (x : After Retired). Reads (x .words) (f .buckets) (retiredIndex f (s .board) (s .index) w (x .handed .refusal)) → Unbroken (retiredAs s i x)) (eqb number 0) _ _
+      (λ is reads.
+      let known = retire-accepted f (s .board) (length (s .records)) i w (plain (eqb-true number 0 is)) in
       record {
         sized = rw (vacated-board-long (s .floor) (s .board) w (known .0), length-set (s .records) i idle) (ok .sized);
         records = set-unbroken idle (λ under. idle-kept);
         buckets = λ b under. vacated-unbroken (s .floor) (s .board) w (known .0) (known .1) b (ok .buckets b under);
+        reads = reads;
       })
-      (λ isnot. seated-unbroken _ _ refl refl (ok .records i))
+      (λ isnot reads. refused-unbroken reads)
+      reads
+    where
+      refused-unbroken :
+          {index : List ℕ}
+          → Reads (s .board) (s .floor .buckets) index
+          → Unbroken (record { board = s .board; floor = s .floor; records = set (s .records) i (listedOf s i); index = index })
+      refused-unbroken reads =
+          let still = seated-unbroken (listedOf s i) (s .floor) refl refl (ok .records i) in
+          record { sized = still .sized; records = still .records; buckets = still .buckets; reads = reads }
 
 -- ---- a run
 
 -- how a run on floor f comes out: what it leaves is unbroken, and the number that stopped it is 2 or 6, or none did
 module _ (f : Floor) where
-  abbrev stands : After Ran → State
-  stands x = record { board = x .words; floor = f; records = x .handed .records }
+  abbrev stands : Indexed (After Ran) → State
+  stands x = record { board = x .left .words; floor = f; records = x .left .handed .records; index = x .index }
 
-  record Passes (x : After Ran) : Type 0 where
-    left : Unbroken (stands x)
-    stop : OneOf (0 ∷ 2 ∷ 6 ∷ []) (x .handed .stop)
+  record Passes (x : Indexed (After Ran)) : Type 0 where
+    whole : Unbroken (stands x)
+    stop : OneOf (0 ∷ 2 ∷ 6 ∷ []) (x .left .handed .stop)
 
-  turns-pass : (turns : List ℕ) (x : After Ran) → Passes x → Passes (runFrom f turns x)
-  unfolding runFrom turned
+  turns-pass : (turns : List ℕ) (x : Indexed (After Ran)) → Passes x → Passes (hallRunFrom f turns x)
+  unfolding hallRunFrom turned
   turns-pass [] x ok = ok
   turns-pass (i ∷ turns) x ok =
-      let w = recordIn (x .handed .records) i in
-      let number = eachNumber f (x .words) i w in
+      let w = recordIn (x .left .handed .records) i in
+      let board = x .left .words in
+      let number = hallEachNumber f board (x .index) i w in
       by-cases
-      (λ (y : After Turned). Keeps (x .words) (own f w) w y
-      → Passes (goOn (runFrom f turns) i (w .place) (y .words) (y .handed .worker) (y .handed .answer) (x .handed)))
+      (λ (y : After Turned). Keeps board (own f w) w y
+      → Reads (y .words) (f .buckets) (indexLeft (x .index) (y .handed .answer))
+      → Passes (hallGoOn (hallRunFrom f turns) i (w .place) (y .words) (x .index) (y .handed .worker) (y .handed .answer) (x .left .handed)))
       (eqb number 0) _ _
-      (λ is keeps. turns-pass turns _ (record { left = turned-unbroken (stands x) (ok .left) i (own f w) _ keeps; stop = inl refl }))
-      (λ isnot keeps. record { left = ok .left; stop = each-numbers (stands x) (ok .left) i })
-      (each-keeps f (x .words) w i)
+      (λ is keeps reads. turns-pass turns _ (record { whole = turned-unbroken (stands x) (ok .whole) i (own f w) _ keeps reads; stop = inl refl }))
+      (λ isnot keeps reads. record { whole = ok .whole; stop = each-numbers (stands x) (ok .whole) i })
+      (hall-each-keeps f board (x .index) i w)
+      (reads-turned f board (x .index) w (ok .whole .reads) number
+      (λ none. (right-sizes _ _ _ (ok .whole .sized), each-accepted f board i w (each-none f board (x .index) i w none) .0)))
 
 module _ (s : State) (ok : Unbroken s) (turns : List ℕ) where
   abbrev number : ℕ
-  number = runNumber (s .floor) (s .board) (length (s .records)) turns
+  number = hallRunNumber (s .floor) (s .board) (s .index) (length (s .records)) turns
 
-  turns-done : Passes (s .floor) (runFrom (s .floor) turns (unbegun (s .board) (s .records) 0))
-  turns-done = turns-pass (s .floor) turns _ (record { left = ok; stop = inl refl })
+  turns-done : Passes (s .floor) (hallRunFrom (s .floor) turns (indexed (s .index) (unbegun (s .board) (s .records) 0)))
+  turns-done = turns-pass (s .floor) turns _ (record { whole = ok; stop = inl refl })
 
   -- a run keeps a state unbroken, refused as a whole or not
-  run-unbroken : Unbroken (ranAs s (runOf s turns))
-  unfolding runCall
-  run-unbroken = by-cases (λ (x : After Ran). Unbroken (ranAs s x)) (eqb number 0) _ _ (λ is. turns-done .left) (λ isnot. ok)
+  run-unbroken : Unbroken (ranAs s (ranBy s turns))
+  unfolding hallRun
+  run-unbroken = by-cases (λ (x : Indexed (After Ran)). Unbroken (ranAs s x)) (eqb number 0) _ _ (λ is. turns-done .whole) (λ isnot. ok)
 
   -- a run is refused as a whole by 9, comes to its end, or stops at a turn that is refused by 2 or 6
   pub run-stops-by : OneOf (9 ∷ 0 ∷ 2 ∷ 6 ∷ []) (runOf s turns .handed .stop)
-  unfolding runCall
+  unfolding hallRun
   run-stops-by =
-      by-cases (λ (x : After Ran). OneOf (9 ∷ 0 ∷ 2 ∷ 6 ∷ []) (x .handed .stop)) (eqb number 0) _ _
+      by-cases (λ (x : Indexed (After Ran)). OneOf (9 ∷ 0 ∷ 2 ∷ 6 ∷ []) (x .left .handed .stop)) (eqb number 0) _ _
       (λ is. inr (turns-done .stop)) (λ isnot. whole (eqb-false number 0 isnot) (run-numbers s ok turns))
     where
       whole : (number ≡ 0 → ⊥) → OneOf (0 ∷ 9 ∷ []) number → OneOf (9 ∷ 0 ∷ 2 ∷ 6 ∷ []) number
@@ -205,24 +244,38 @@ module _ (s : State) (ok : Unbroken s) (turns : List ℕ) where
 
 -- ---- any call
 
+-- a turn call leaves the index the full reading
+turn-reads : (s : State) → Unbroken s → (i : ℕ) → Reads (turnedAs s i (turnBy s i) .board) (s .floor .buckets) (turnedAs s i (turnBy s i) .index)
+unfolding hallTurn
+turn-reads s ok i =
+    let f = s .floor in
+    let w = listedOf s i in
+    reads-turned f (s .board) (s .index) w (ok .reads) _
+    (λ none.
+    let known = turn-accepted f (s .board) (length (s .records)) i w (turn-none f (s .board) (s .index) i w (length (s .records)) none) in
+    (known .0, known .1))
+
 -- every call keeps a state unbroken, accepted or refused
 after-unbroken : (s : State) (c : Call) → Unbroken s → Unbroken (after s c)
 after-unbroken s (look i lot) ok = start-unbroken s ok i false (lookFor lot) (s .floor) refl refl (λ early. look-kept lot)
 after-unbroken s (insert i lot t) ok =
     start-unbroken s ok i _ _ _ refl refl (λ early. insert-kept lot (t .number) (omega (arith, leb-false (t .number) (s .floor .last) early)))
 after-unbroken s (remove i lot) ok = start-unbroken s ok i false (removeOf lot) (s .floor) refl refl (λ early. remove-kept lot)
-after-unbroken s (turn i) ok = turned-unbroken s ok i _ _ (turn-keeps (s .board) (seatOf s i) (listedOf s i))
+after-unbroken s (turn i) ok =
+    turned-unbroken s ok i _ _ (hall-turn-keeps (s .board) (s .index) (seatOf s i) (listedOf s i)) (turn-reads s ok i)
 after-unbroken s (retire i) ok = retire-unbroken s ok i
 after-unbroken s (run turns) ok = run-unbroken s ok turns
 after-unbroken s (show lot) ok = ok
 after-unbroken s count ok = ok
 after-unbroken s (orders depth) ok = ok
+after-unbroken s askTotal ok = ok
+after-unbroken s (askNext from) ok = ok
 
 module _ (s : State) (ok : Unbroken s) (i : ℕ) where
   -- a turn that would be done in a run is done as a call too
-  pub number-is : eachNumber (s .floor) (s .board) i (listedOf s i) ≡ 0 → Acting.number s i ≡ 0
+  pub number-is : hallEachNumber (s .floor) (s .board) (s .index) i (listedOf s i) ≡ 0 → Acting.number s i ≡ 0
   unfolding turnNumber
-  number-is none = rw (ok .sized) none
+  number-is none = rw (turn-same-number (s .floor) (ok .reads) (length (s .records)) i (listedOf s i), ok .sized) (sym (each-index s ok i) ∙ none)
 
   -- what a turn that is done leaves is unbroken
   pub turn-unbroken : Acting.number s i ≡ 0 → Unbroken (turnedAs s i (Acting.done s i))

@@ -1,10 +1,10 @@
--- Where nothing is broken and the sizes are right, no call is refused by 1, 3 or 7: which numbers of refusal are left, call by call.
+-- Where nothing is broken and the sizes are right, no call is refused by 1, 3, 7 or 11: which numbers of refusal are left, call by call.
 -- Assumes nothing.
 use Prim.Native.Nat.{ℕ, zero, suc, _≤_, _<_}
 use mathlib.Core.Bool.{Bool, false, cond, not}
 use mathlib.Core.List.{List, [], _∷_}
 use mathlib.Core.Logic.{inl, inr}
-use mathlib.Core.Path.{_≡_, refl}
+use mathlib.Core.Path.{_≡_, refl, _∙_}
 use native.Mathlib.Nat.{mod-lt}
 use native.Mathlib.Omega.{arith}
 use lib.Dec.{eqb, ltb}
@@ -24,6 +24,9 @@ use Rattle.engine.proofs.Sizes.{both-fail, right-sizes, right-listed}
 use Rattle.engine.proofs.Keeps.{each-unrefused}
 use Rattle.walks.specs.Calls.{notSmall, ordersNumber}
 use Rattle.walks.proofs.Classes.{all-sound}
+use Rattle.hall.specs.Refusals.{hallEachNumber, hallTurnNumber, hallRetireNumber, hallRunNumber, questionNumber}
+use Rattle.hall.proofs.Plain.{five-run}
+use Rattle.hall.proofs.Same.{each-same, turn-same-number, retire-same-number}
 use Rattle.history.specs.History.{State, listedOf}
 use Rattle.history.specs.Numbers.{OneOf}
 use Rattle.history.specs.Unbroken.{Unbroken}
@@ -66,27 +69,38 @@ module _ (s : State) (ok : Unbroken s) where
       (either-of left (not (isIdle w)) 4 _ (inr (inr (inl refl)))
       (λ idle. either-of left late 5 0 (inr (inr (inr (inl refl)))) (λ early. inl refl)))))
 
+  -- the index makes no turn's number another
+  pub each-index : (i : ℕ) → hallEachNumber (s .floor) (s .board) (s .index) i (listedOf s i) ≡ eachNumber (s .floor) (s .board) i (listedOf s i)
+  each-index i = each-same (s .floor) (ok .reads) i (listedOf s i) (right-sizes _ _ _ (ok .sized))
+
   -- a turn of a run is done, or refused by 2 or 6
-  pub each-numbers : (i : ℕ) → OneOf (0 ∷ 2 ∷ 6 ∷ []) (eachNumber (s .floor) (s .board) i (listedOf s i))
+  each-plain : (i : ℕ) → OneOf (0 ∷ 2 ∷ 6 ∷ []) (eachNumber (s .floor) (s .board) i (listedOf s i))
   unfolding eachNumber turnRefusal
-  each-numbers i =
+  each-plain i =
       let w = listedOf s i in
       let left : List ℕ = 0 ∷ 2 ∷ 6 ∷ [] in
       either-of left (noWorker (s .floor) i) 2 _ (inr (inl refl))
       (λ there. rw (ok .records i (leb-false _ _ there))
       (either-of left (isIdle w) 6 _ (inr (inr (inl refl))) (λ busy. rw (lot-unbroken (w .key)) (inl refl))))
 
+  pub each-numbers : (i : ℕ) → OneOf (0 ∷ 2 ∷ 6 ∷ []) (hallEachNumber (s .floor) (s .board) (s .index) i (listedOf s i))
+  each-numbers i = rw (each-index i) (each-plain i)
+
   module _ (i : ℕ) (under : i < s .floor .workers) where
     -- a turn of a busy worker is never refused
-    pub busy-moves : (listedOf s i ≡ idle → ⊥) → eachNumber (s .floor) (s .board) i (listedOf s i) ≡ 0
+    pub busy-moves : (listedOf s i ≡ idle → ⊥) → hallEachNumber (s .floor) (s .board) (s .index) i (listedOf s i) ≡ 0
     busy-moves busy =
         let w = listedOf s i in
-        each-unrefused (s .floor) (s .board) i w under (ok .records i under) (not-idle w busy) (lot-unbroken (w .key))
+        each-index i
+        ∙ each-unrefused (s .floor) (s .board) i w under (ok .records i under) (not-idle w busy) (lot-unbroken (w .key))
 
     -- a turn of an idle worker is refused by 6
-    pub idle-stays : listedOf s i ≡ idle → eachNumber (s .floor) (s .board) i (listedOf s i) ≡ 6
+    idle-plain : listedOf s i ≡ idle → eachNumber (s .floor) (s .board) i (listedOf s i) ≡ 6
     unfolding eachNumber turnRefusal
-    idle-stays is = rw (lt-leb (s .floor .workers) i under, is, idle-kept, is-idle)
+    idle-plain is = rw (lt-leb (s .floor .workers) i under, is, idle-kept, is-idle)
+
+    pub idle-stays : listedOf s i ≡ idle → hallEachNumber (s .floor) (s .board) (s .index) i (listedOf s i) ≡ 6
+    idle-stays is = each-index i ∙ idle-plain is
 
     -- the start of an idle worker is accepted, unless its ticket is spent
     pub idle-starts : (late : Bool) → listedOf s i ≡ idle → late ≡ false → startNumber (s .floor) (s .board) (length (s .records)) i (listedOf s i) late ≡ 0
@@ -94,17 +108,17 @@ module _ (s : State) (ok : Unbroken s) where
     idle-starts late is early = rw (ok .sized, lt-leb (s .floor .workers) i under, is, idle-kept, is-idle, early)
 
   -- a turn call is done, or refused by 2 or 6
-  pub turn-numbers : (i : ℕ) → OneOf (0 ∷ 2 ∷ 6 ∷ []) (turnNumber (s .floor) (s .board) (length (s .records)) i (listedOf s i))
+  pub turn-numbers : (i : ℕ) → OneOf (0 ∷ 2 ∷ 6 ∷ []) (hallTurnNumber (s .floor) (s .board) (s .index) (length (s .records)) i (listedOf s i))
   unfolding turnNumber
-  turn-numbers i = rw (ok .sized) (each-numbers i)
+  turn-numbers i = rw (turn-same-number (s .floor) (ok .reads) (length (s .records)) i (listedOf s i), ok .sized) (each-plain i)
 
   -- a retiring is done, or refused by 2 or 6
-  pub retire-numbers : (i : ℕ) → OneOf (0 ∷ 2 ∷ 6 ∷ []) (retireNumber (s .floor) (s .board) (length (s .records)) i (listedOf s i))
+  pub retire-numbers : (i : ℕ) → OneOf (0 ∷ 2 ∷ 6 ∷ []) (hallRetireNumber (s .floor) (s .board) (s .index) (length (s .records)) i (listedOf s i))
   unfolding retireNumber retireRefusal
   retire-numbers i =
       let w = listedOf s i in
       let left : List ℕ = 0 ∷ 2 ∷ 6 ∷ [] in
-      rw (ok .sized)
+      rw (retire-same-number (s .floor) (ok .reads) (length (s .records)) i w, ok .sized)
       (either-of left (noWorker (s .floor) i) 2 _ (inr (inl refl))
       (λ there. rw (ok .records i (leb-false _ _ there))
       (either-of left (isIdle w) 6 _ (inr (inr (inl refl)))
@@ -115,22 +129,22 @@ module _ (s : State) (ok : Unbroken s) where
       (i : ℕ)
       → i < s .floor .workers
       → (listedOf s i ≡ idle → ⊥)
-      → retireNumber (s .floor) (s .board) (length (s .records)) i (listedOf s i) ≡ 0
+      → hallRetireNumber (s .floor) (s .board) (s .index) (length (s .records)) i (listedOf s i) ≡ 0
   unfolding retireNumber retireRefusal
   busy-retires i under busy =
       let w = listedOf s i in
-      rw (ok .sized, lt-leb (s .floor .workers) i under, ok .records i under, not-idle w busy, lot-unbroken (w .key))
+      rw (retire-same-number (s .floor) (ok .reads) (length (s .records)) i w, ok .sized, lt-leb (s .floor .workers) i under, ok .records i under, not-idle w busy, lot-unbroken (w .key))
       (by-cases (λ (n : ℕ). n ≡ 0) (eqb (w .held) noSlot) 0 0 (λ none. refl) (λ held. refl))
 
   -- a run is refused as a whole by 9 only
-  pub run-numbers : (turns : List ℕ) → OneOf (0 ∷ 9 ∷ []) (runNumber (s .floor) (s .board) (length (s .records)) turns)
+  pub run-numbers : (turns : List ℕ) → OneOf (0 ∷ 9 ∷ []) (hallRunNumber (s .floor) (s .board) (s .index) (length (s .records)) turns)
   unfolding runNumber wrongSizes
-  run-numbers turns = rw (ok .sized) (either-of (0 ∷ 9 ∷ []) (ltb 65535 (length turns)) 9 0 (inr (inl refl)) (λ few. inl refl))
+  run-numbers turns = rw (five-run (s .floor) (s .board) (s .index) (length (s .records)) turns (ok .reads .five), ok .sized) (either-of (0 ∷ 9 ∷ []) (ltb 65535 (length turns)) 9 0 (inr (inl refl)) (λ few. inl refl))
 
   -- a run that is not too long is not refused as a whole
-  pub run-accepted : (turns : List ℕ) → length turns ≤ 65535 → runNumber (s .floor) (s .board) (length (s .records)) turns ≡ 0
+  pub run-accepted : (turns : List ℕ) → length turns ≤ 65535 → hallRunNumber (s .floor) (s .board) (s .index) (length (s .records)) turns ≡ 0
   unfolding runNumber wrongSizes
-  run-accepted turns few = rw (ok .sized, le-ltb 65535 (length turns) few)
+  run-accepted turns few = rw (five-run (s .floor) (s .board) (s .index) (length (s .records)) turns (ok .reads .five), ok .sized, le-ltb 65535 (length turns) few)
 
   -- a show is never refused
   pub show-accepted : (lot : ℕ) → showNumber (s .floor) (s .board) lot ≡ 0
@@ -141,6 +155,11 @@ module _ (s : State) (ok : Unbroken s) where
   pub count-accepted : countNumber (s .floor) (s .board) ≡ 0
   unfolding countNumber
   count-accepted = rw (floor-fits _ _ _ (ok .sized), none-broken (s .board) (s .floor .buckets) (ok .buckets))
+
+  -- a question is never refused
+  pub question-accepted : questionNumber (s .floor) (s .board) (s .index) ≡ 0
+  unfolding questionNumber
+  question-accepted = rw (ok .reads .five, floor-fits _ _ _ (ok .sized))
 
   -- all orders of a small class are never refused
   pub orders-accepted : (depth : ℕ) → notSmall (s .floor) depth ≡ false → ordersNumber (s .board) (s .floor) (s .records) (length (s .records)) depth ≡ 0

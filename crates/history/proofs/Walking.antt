@@ -8,7 +8,7 @@ use lib.Dec.{eqb}
 use lib.ListN.{take}
 use Rattle.engine.specs.declared.Started.{Started}
 use Rattle.history.specs.Trace.{Entry}
-use Rattle.history.specs.History.{State, Opening, Call, look, insert, remove, turn, retire, run, show, count, orders, opened, lookBy, insertBy, removeBy, runOf}
+use Rattle.history.specs.History.{State, Opening, Call, look, insert, remove, turn, retire, run, show, count, orders, askTotal, askNext, opened, lookBy, insertBy, removeBy, runOf}
 use Rattle.history.specs.History.{after, entries, stateFrom, traceFrom, sumFrom, begun, isStart, state, trace, inserts, removes}
 use Rattle.history.proofs.Runs.{run-state, run-trace}
 use Rattle.history.proofs.View.{View, Walk, stays, starts, acts}
@@ -74,6 +74,8 @@ module _ (n : ℕ) where
   call-walk s (show lot) is = stays
   call-walk s count is = stays
   call-walk s (orders depth) is = stays
+  call-walk s askTotal is = stays
+  call-walk s (askNext from) is = stays
 
   -- ---- calls
 

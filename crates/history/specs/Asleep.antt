@@ -8,7 +8,7 @@ use Rattle.turn.specs.Asleep.{capped}
 use Rattle.engine.specs.declared.Started.{Started}
 use Rattle.history.specs.Trace.{Turn, Entry, acted, retired, By, None, Continues}
 use Rattle.history.specs.Counts.{turnsIn}
-use Rattle.history.specs.History.{State, Opening, Call, look, insert, remove, turn, retire, run, show, count, orders}
+use Rattle.history.specs.History.{State, Opening, Call, look, insert, remove, turn, retire, run, show, count, orders, askTotal, askNext}
 use Rattle.history.specs.History.{listedOf, workersOf, lookBy, insertBy, removeBy, after, entries, traceFrom, opened, state, trace}
 use Rattle.history.specs.HowLong.{IsIdle}
 
@@ -33,6 +33,8 @@ startsOn i s (run turns) = false
 startsOn i s (show lot) = false
 startsOn i s count = false
 startsOn i s (orders depth) = false
+startsOn i s askTotal = false
+startsOn i s (askNext from) = false
 
 -- §20.5: the turns of others since worker i's start or last turn, after these calls, if there were so many before them
 unfoldable pub asleepFrom : ℕ → ℕ → State → List Call → ℕ

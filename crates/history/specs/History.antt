@@ -1,5 +1,5 @@
 -- What an opened board is. A history is an opening that was accepted and any list of calls since, accepted or refused. What each call does
--- is said in the engine's Calls, and nowhere else.
+-- is said in the engine's Calls and the hall's, and nowhere else.
 use Prim.Native.Nat.{ℕ, _+_, _-_, _*_, _%_, _^_, _<_}
 use mathlib.Core.Bool.{cond}
 use mathlib.Core.List.{List, [], _∷_, _++_, map}
@@ -17,17 +17,19 @@ use Rattle.engine.specs.declared.Plan.{Plan}
 use Rattle.engine.specs.declared.Seat.{Seat}
 use Rattle.engine.specs.declared.Started.{Started}
 use Rattle.engine.specs.Board.{bucketOf}
-use Rattle.engine.specs.Refusals.{openNumber, runNumber}
-use Rattle.engine.specs.Calls.{Opened, Ran, planned, openCall, lookCall, insertCall, removeCall, turnCall, recordsLeft, retireCall, runCall, recordIn, seatIn}
+use Rattle.engine.specs.Calls.{Opened, Ran, planned, lookCall, insertCall, removeCall, recordsLeft, recordIn, seatIn}
+use Rattle.hall.specs.Refusals.{hallOpenNumber, hallRunNumber}
+use Rattle.hall.specs.Calls.{hallOpen, openedIndex, hallTurn, indexLeft, hallRetire, retiredIndex, Indexed, hallRun}
 use Rattle.history.specs.Trace.{Entry, acted, retired}
 
 -- ---- the state, and the opening that it comes from
 
--- §2.11: board, floor and records, as one call leaves them and the next one takes them
+-- §2.11: board, floor, records and index, as one call leaves them and the next one takes them
 pub record State : Type 0 where
   pub board : List ℕ
   pub floor : Floor
   pub records : List Worker
+  pub index : List ℕ
 
 -- a worker's record, as it stands in the list
 abbrev pub listedOf : State → ℕ → Worker
@@ -41,11 +43,11 @@ recordOf s i = recordIn (map awake (s .records)) i
 abbrev pub seatOf : State → ℕ → Seat
 seatOf s i = seatIn (s .floor) (s .records) i
 
--- §2.11: an opening that is accepted, with anything on the board and in the list that are lent to it: so W is 1 to 64, and N 1 to 256
+-- §2.11: an opening that is accepted, with anything on the board, in the list and in the index that are lent to it: so W is 1 to 64, and N 1 to 256
 pub record Opening : Type 0 where
   pub lent : State
   pub plan : Plan
-  pub accepted : openNumber (planned plan) (lent .board) (length (lent .records)) ≡ 0
+  pub accepted : hallOpenNumber (planned plan) (lent .board) (lent .index) (length (lent .records)) ≡ 0
   -- §2.10: a version has 32 bits
   pub version-fits : plan .version < 2 ^ 32
 
@@ -53,13 +55,18 @@ pub record Opening : Type 0 where
 abbrev pub workersOf : Opening → ℕ
 workersOf o = o .plan .workers
 
--- what an opening hands back, with the board that it leaves
-abbrev pub openedAs : After Opened → State
-openedAs x = record { board = x .words; floor = x .handed .floor; records = x .handed .records }
+-- what an opening of a state hands back, with the board and the index that it leaves
+abbrev pub openedAs : State → After Opened → State
+openedAs s x =
+    record { board = x .words; floor = x .handed .floor; records = x .handed .records; index = openedIndex (s .index) (x .handed .refusal) }
+
+-- what the engine says of an opening of a state
+abbrev pub openBy : State → Plan → After Opened
+openBy s plan = hallOpen (s .board) (s .index) (s .floor) (s .records) (length (s .records)) plan
 
 -- §2.10: the state that the opening leaves
 abbrev pub opened : Opening → State
-opened o = openedAs (openCall (o .lent .board) (o .lent .floor) (o .lent .records) (length (o .lent .records)) (o .plan))
+opened o = openedAs (o .lent) (openBy (o .lent) (o .plan))
 
 -- ---- calls
 
@@ -92,6 +99,10 @@ pub data Call : Type 0 where
   count : Call
   -- all orders of turns are walked, to a depth
   orders : ℕ → Call
+  -- the display asks for the number of valid slots
+  askTotal : Call
+  -- and for the first occupied bucket at or after one
+  askNext : ℕ → Call
 
 module _ (s : State) where
   -- what the engine says of the start of a look
@@ -108,46 +119,64 @@ module _ (s : State) where
 
   -- what it says of one turn
   abbrev pub turnBy : ℕ → After Turned
-  turnBy i = turnCall (s .board) (seatOf s i) (listedOf s i)
+  turnBy i = hallTurn (s .board) (s .index) (seatOf s i) (listedOf s i)
 
   -- what it says of a retiring
   abbrev pub retireBy : ℕ → After Retired
-  retireBy i = retireCall (s .board) (seatOf s i) (listedOf s i)
+  retireBy i = hallRetire (s .board) (s .index) (seatOf s i) (listedOf s i)
+
+  -- what it says of a run, and the index that the run leaves
+  abbrev pub ranBy : List ℕ → Indexed (After Ran)
+  ranBy turns = hallRun (s .board) (s .index) (s .floor) (s .records) (length (s .records)) turns
 
   -- what it says of a run
   abbrev pub runOf : List ℕ → After Ran
-  runOf turns = runCall (s .board) (s .floor) (s .records) (length (s .records)) turns
+  runOf turns = ranBy turns .left
 
 -- ---- what a call leaves
 
--- a start leaves the board; the floor and the worker's record are what it hands back
+-- a start leaves the board and the index; the floor and the worker's record are what it hands back
 abbrev pub startedAs : State → ℕ → Started → State
-startedAs s i x = record { board = s .board; floor = x .floor; records = set (s .records) i (x .worker) }
+startedAs s i x = record { board = s .board; floor = x .floor; records = set (s .records) i (x .worker); index = s .index }
 
--- a turn leaves the floor; the board and the worker's record are what it leaves and hands back, and the others sleep through it
+-- a turn leaves the floor; the board and the worker's record are what it leaves and hands back, the others sleep through it, and the index
+-- follows its report
 abbrev pub turnedAs : State → ℕ → After Turned → State
 turnedAs s i x =
-    record { board = x .words; floor = s .floor; records = recordsLeft (s .records) i (x .handed .worker) (x .handed .answer) }
+    record {
+      board = x .words;
+      floor = s .floor;
+      records = recordsLeft (s .records) i (x .handed .worker) (x .handed .answer);
+      index = indexLeft (s .index) (x .handed .answer);
+    }
 
--- a retiring leaves the floor; the board and the worker's record are what it leaves and hands back
+-- a retiring leaves the floor; the board and the worker's record are what it leaves and hands back, and the index follows the bucket
 abbrev pub retiredAs : State → ℕ → After Retired → State
-retiredAs s i x = record { board = x .words; floor = s .floor; records = set (s .records) i (x .handed .worker) }
+retiredAs s i x =
+    record {
+      board = x .words;
+      floor = s .floor;
+      records = set (s .records) i (x .handed .worker);
+      index = retiredIndex (s .floor) (s .board) (s .index) (listedOf s i) (x .handed .refusal);
+    }
 
--- a run leaves the floor; the board and all records are what it leaves and hands back
-abbrev pub ranAs : State → After Ran → State
-ranAs s x = record { board = x .words; floor = s .floor; records = x .handed .records }
+-- a run leaves the floor; the board, all records and the index are what it leaves and hands back
+abbrev pub ranAs : State → Indexed (After Ran) → State
+ranAs s x = record { board = x .left .words; floor = s .floor; records = x .left .handed .records; index = x .index }
 
--- §2.11, §12.5, §18.5: the state after a call, by the engine's own; a show, a count and all orders change nothing
+-- §2.11, §12.5, §18.5, §21.2: the state after a call, by the engine's own; a show, a count, all orders and the questions change nothing
 abbrev pub after : State → Call → State
 after s (look i lot) = startedAs s i (lookBy s i lot)
 after s (insert i lot t) = startedAs s i (insertBy s i lot t)
 after s (remove i lot) = startedAs s i (removeBy s i lot)
 after s (turn i) = turnedAs s i (turnBy s i)
 after s (retire i) = retiredAs s i (retireBy s i)
-after s (run turns) = ranAs s (runOf s turns)
+after s (run turns) = ranAs s (ranBy s turns)
 after s (show lot) = s
 after s count = s
 after s (orders depth) = s
+after s askTotal = s
+after s (askNext from) = s
 
 -- ---- what a call does: turns, and retirings
 
@@ -181,7 +210,7 @@ turnEntries s (i ∷ turns) = andThen (turnEntry s i) (turnEntries (turnedAs s i
 
 -- the entries of a run; one that is refused as a whole, by 1 or 9, has none
 abbrev pub runEntries : State → List ℕ → List Entry
-runEntries s turns = cond (eqb (runNumber (s .floor) (s .board) (length (s .records)) turns) 0) (turnEntries s turns) []
+runEntries s turns = cond (eqb (hallRunNumber (s .floor) (s .board) (s .index) (length (s .records)) turns) 0) (turnEntries s turns) []
 
 -- the entries of a call
 abbrev pub entries : State → Call → List Entry
@@ -194,6 +223,8 @@ entries s (run turns) = runEntries s turns
 entries s (show lot) = []
 entries s count = []
 entries s (orders depth) = []
+entries s askTotal = []
+entries s (askNext from) = []
 
 -- ---- histories
 
@@ -227,6 +258,8 @@ begins s (run turns) = 0
 begins s (show lot) = 0
 begins s count = 0
 begins s (orders depth) = 0
+begins s askTotal = 0
+begins s (askNext from) = 0
 
 -- 1 for a call of the library that begins one of this kind
 abbrev pub isStart : ℕ → State → Call → ℕ

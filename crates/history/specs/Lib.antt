@@ -10,6 +10,7 @@ pub mod Cells
 pub mod Unbroken
 pub mod Singly
 pub mod Lots
+pub mod Display
 pub mod AllOrders
 pub mod InCall
 pub mod HowLong

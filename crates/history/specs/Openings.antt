@@ -6,10 +6,10 @@ use mathlib.Core.Path.{_≡_}
 use native.Mathlib.Decide.{ℕ-discrete}
 use lib.ListN.{length}
 use Rattle.engine.specs.declared.Plan.{Plan}
-use Rattle.engine.specs.Refusals.{openNumber}
-use Rattle.engine.specs.Calls.{planned, openCall}
+use Rattle.engine.specs.Calls.{planned}
+use Rattle.hall.specs.Refusals.{hallOpenNumber}
 use Rattle.history.specs.Trace.{Entry}
-use Rattle.history.specs.History.{State, Opening, Call, opened, openedAs, after, entries, state, trace}
+use Rattle.history.specs.History.{State, Opening, Call, opened, openedAs, openBy, after, entries, state, trace}
 use Rattle.history.specs.Demand.{DemandThree}
 use Rattle.history.specs.Values.{NoValueComesBack}
 use Rattle.history.specs.Lots.{CountTells}
@@ -18,22 +18,23 @@ use Rattle.history.specs.Cells.{Cells}
 use Rattle.history.specs.HowLong.{HowLong}
 use Rattle.history.specs.Unbroken.{Unbroken}
 use Rattle.history.specs.Retirings.{Retirings}
+use Rattle.history.specs.Display.{Displays}
 
 -- whatever may be asked of the library, with any numbers
 pub data Asked : Type 0 where
   -- a call on the floor that stands open
   asks : Call → Asked
-  -- an opening of the same board and list, at a version of 32 bits
+  -- an opening of the same board, list and index, at a version of 32 bits
   opens : (plan : Plan) → plan .version < 2 ^ 32 → Asked
 
 -- its number, if an opening is asked of a state
 abbrev pub reopenNumber : State → Plan → ℕ
-reopenNumber s plan = openNumber (planned plan) (s .board) (length (s .records))
+reopenNumber s plan = hallOpenNumber (planned plan) (s .board) (s .index) (length (s .records))
 
 -- the state that it leaves, by the engine's own calls
 abbrev pub leaves : State → Asked → State
 leaves s (asks c) = after s c
-leaves s (opens plan fits) = openedAs (openCall (s .board) (s .floor) (s .records) (length (s .records)) plan)
+leaves s (opens plan fits) = openedAs s (openBy s plan)
 
 -- the turns that it does
 abbrev pub turnsBy : State → Asked → List Entry
@@ -90,7 +91,7 @@ historyOf o asked = since (fromOpening o) asked
 
 -- what holds under any order of calls, openings among them
 pub record AnyOrder (o : Opening) (asked : List Asked) : Type 0 where
-  -- board, floor and records stand as the history since the last accepted opening leaves them
+  -- board, floor, records and index stand as the history since the last accepted opening leaves them
   pub stands : leavesAll (opened o) asked ≡ stateSince (historyOf o asked)
   -- the last turns that were done are that history's
   pub older : List Entry
@@ -107,6 +108,8 @@ pub record AnyOrder (o : Opening) (asked : List Asked) : Type 0 where
   pub lasting : HowLong (historyOf o asked .opening) (historyOf o asked .calls)
   -- whoever is at a call can be retired, and one that comes back after all finds its word never again
   pub retires : Retirings (historyOf o asked .opening) (historyOf o asked .calls)
+  -- the hall display is told what stands on the board
+  pub displayed : Displays (historyOf o asked .opening) (historyOf o asked .calls)
   -- held slots are filled, and valid ones have a lot of their bucket and a ticket
   pub cells : Cells (leavesAll (opened o) asked)
   -- and nothing is broken

@@ -2,7 +2,7 @@
 -- between two calls.
 use mathlib.Core.List.{List, [], _∷_, _++_, map}
 use lib.ListN.{take}
-use Rattle.history.specs.History.{State, Opening, Call, look, insert, remove, turn, retire, run, show, count, orders, opened, runOf, after}
+use Rattle.history.specs.History.{State, Opening, Call, look, insert, remove, turn, retire, run, show, count, orders, askTotal, askNext, opened, runOf, after}
 
 -- a call by itself, or the turns that a run does
 abbrev pub single : State → Call → List Call
@@ -15,6 +15,8 @@ single s (run turns) = map turn (take (runOf s turns .handed .totals .turns) tur
 single s (show lot) = show lot ∷ []
 single s count = count ∷ []
 single s (orders depth) = orders depth ∷ []
+single s askTotal = askTotal ∷ []
+single s (askNext from) = askNext from ∷ []
 
 -- calls from a state, with no run among them
 unfoldable pub singlyFrom : State → List Call → List Call
@@ -37,3 +39,5 @@ NoRuns (retire i ∷ cs) = NoRuns cs
 NoRuns (show lot ∷ cs) = NoRuns cs
 NoRuns (count ∷ cs) = NoRuns cs
 NoRuns (orders depth ∷ cs) = NoRuns cs
+NoRuns (askTotal ∷ cs) = NoRuns cs
+NoRuns (askNext from ∷ cs) = NoRuns cs

@@ -52,20 +52,16 @@ sleeperWords =
     ++ ((8589934593, 4294967298) ∷ replicate 4 (4294967298, 4294967298))
     ++ ((4294967298, 2) ∷ [])
 
+-- §10.11: B has claimed a slot for a lot that C has put up meanwhile; A starts
+abbrev pub beforeReading : List Call
+beforeReading = insert B 7 (ticket 1) ∷ turnsOf B 8 ∷ insert C 7 (ticket 2) ∷ turnsOf C 11 ∷ turnsOf B 10 ∷ insert A 8 (ticket 3) ∷ []
+
 -- §10.11: after A has read the mark word B gives its slot back, and C claims the same slot
+abbrev pub sinceReading : List Call
+sinceReading = turnsOf A 8 ∷ turnsOf B 1 ∷ insert C 9 (ticket 4) ∷ turnsOf C 9 ∷ []
+
 abbrev pub wordRepeats : List Call
-wordRepeats =
-    insert B 7 (ticket 1)
-    ∷ turnsOf B 8
-    ∷ insert C 7 (ticket 2)
-    ∷ turnsOf C 11
-    ∷ turnsOf B 10
-    ∷ insert A 8 (ticket 3)
-    ∷ turnsOf A 8
-    ∷ turnsOf B 1
-    ∷ insert C 9 (ticket 4)
-    ∷ turnsOf C 9
-    ∷ []
+wordRepeats = beforeReading ++ sinceReading
 
 -- §10.11: and then A's swap
 abbrev pub repeatedWord : List Call

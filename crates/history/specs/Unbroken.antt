@@ -8,6 +8,7 @@ use Rattle.turn.specs.Worker.{broken}
 use Rattle.turn.specs.Bucket.{brokenBucket}
 use Rattle.engine.specs.Board.{bucketAt}
 use Rattle.engine.specs.Refusals.{wrongSizes}
+use Rattle.hall.specs.Reading.{Reads}
 use Rattle.history.specs.History.{State, listedOf}
 
 -- a state of which no part is broken
@@ -18,3 +19,5 @@ pub record Unbroken (s : State) : Type 0 where
   pub records : (i : ℕ) → i < s .floor .workers → broken (listedOf s i) ≡ false
   -- no bucket is broken
   pub buckets : (b : ℕ) → b < s .floor .buckets → brokenBucket (bucketAt (s .board) b) ≡ false
+  -- the index is the full reading of the board
+  pub reads : Reads (s .board) (s .floor .buckets) (s .index)

@@ -13,7 +13,7 @@ use Rattle.engine.specs.Board.{bucketAt}
 use Rattle.history.specs.Numbers.{OneOf, Rising}
 use Rattle.history.specs.Trace.{Turn, acted, IsTurn, Some, None}
 use Rattle.history.specs.Moment.{AtTurn}
-use Rattle.history.specs.History.{State, Opening, Call, look, insert, remove, turn, retire, run, show, count, orders, opened, insertBy}
+use Rattle.history.specs.History.{State, Opening, Call, look, insert, remove, turn, retire, run, show, count, orders, askTotal, askNext, opened, insertBy}
 use Rattle.history.specs.History.{after, turnEntry, traceFrom, state, trace}
 
 -- the value that stands in a slot of a bucket; what is said of values below needs no bound on either number
@@ -41,6 +41,8 @@ spentBy s (run turns) = []
 spentBy s (show lot) = []
 spentBy s count = []
 spentBy s (orders depth) = []
+spentBy s askTotal = []
+spentBy s (askNext from) = []
 
 -- the tickets that calls from a state spend, in their order
 unfoldable pub ticketsFrom : State → List Call → List ℕ

@@ -1,10 +1,20 @@
 -- How many of the three marks are n, and how a set and a bump change that. Assumes nothing.
-use Prim.Native.Nat.{ℕ, _+_, _<_}
+use Prim.Native.Nat.{ℕ, _+_, _≤_, _<_}
 use mathlib.Core.Path.{_≡_}
 use native.Mathlib.Omega.{arith}
+use lib.Dec.{eqb}
 use Rattle.mark.specs.Word.{markOf, setMark, bump, isMark, countMarks}
+use Rattle.mark.proofs.Choices.{by-cases}
 use Rattle.mark.proofs.Slots.{slots}
 use Rattle.mark.proofs.Fields.{mark-set, mark-set-other, mark-bump}
+
+-- there are three of them
+one-le : (n mark : ℕ) → isMark n mark ≤ 1
+one-le n mark = by-cases (λ (x : ℕ). x ≤ 1) (eqb mark n) 1 0 (λ is. omega arith) (λ isnot. omega arith)
+
+pub count-le : (n w : ℕ) → countMarks n w ≤ 3
+unfolding countMarks
+count-le n w = omega (arith, one-le n (markOf w 0), one-le n (markOf w 1), one-le n (markOf w 2))
 
 module _ (n w m : ℕ) (byte : m < 256) where
   -- the mark of the slot that is set becomes m, and two others stay

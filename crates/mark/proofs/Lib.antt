@@ -1,7 +1,7 @@
-mod Byte
 pub mod Choices
 pub mod Counts
 mod Empties
+pub mod Field
 pub mod Fields
 pub mod FirstEmpty
 mod Masks

@@ -1,8 +1,8 @@
 // The mark word of a bucket: one 64-bit word that holds the version and the three slots' marks.
 // A slot is 0, 1 or 2. Any other number names no slot: its mark reads as 0, and setting it changes nothing.
 ghost use mathlib.Core.Path.{_≡_};
-ghost use Prim.Native.Nat.{_+_, _*_};
-ghost use Rattle.mark.specs.Word.{version, markOf, setMark, nextVersion, bump, firstEmpty, wellFormed};
+ghost use Prim.Native.Nat.{_+_, _*_, _≤_};
+ghost use Rattle.mark.specs.Word.{version, markOf, setMark, nextVersion, bump, firstEmpty, wellFormed, isMark, countMarks};
 
 // §2.6: the mark of a slot that may be claimed.
 pub const EMPTY: u8 = 0;
@@ -85,4 +85,24 @@ pub fn is_well_formed(word: u64) -> bool
     let above = word >> 32;
     // A mark over 2 has a bit above its lowest two, or gets one when 1 is added; byte 7 has no bit at all.
     ((above | (above + 0x0001_0101)) & 0xFFFC_FCFC) == 0
+}
+
+// §2.9: what a slot with this mark counts for.
+fn one_if_valid(mark: u8) -> usize
+    ensures { λ r. ⌜ (r ≡ isMark 1 mark) × (r ≤ 1) ⌝ }
+{
+    if mark == VALID {
+        return 1;
+    }
+    0
+}
+
+// §2.9: how many slots of a mark word are valid.
+pub fn valid_slots(word: u64) -> usize
+    ensures { λ r. ⌜ (r ≡ countMarks 1 word) × (r ≤ 3) ⌝ }
+{
+    let first = one_if_valid(mark_of(word, 0));
+    let second = one_if_valid(mark_of(word, 1));
+    let third = one_if_valid(mark_of(word, 2));
+    first + second + third
 }

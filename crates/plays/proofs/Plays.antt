@@ -16,6 +16,8 @@ use Rattle.engine.specs.Board.{openedBoard}
 use Rattle.engine.specs.Refusals.{wrongSizes, openNumber}
 use Rattle.engine.specs.Calls.{Opened, planned, openCall, noTurns}
 use Rattle.engine.proofs.Sizes.{right-sizes}
+use Rattle.hall.specs.Index.{indexWords}
+use Rattle.hall.proofs.Plain.{five-open}
 use Rattle.sheet.specs.Line.{totalsLine}
 use Rattle.sheet.specs.Play.{Outcome, outcome, deskOf, shutDesk, shutFloor, openField, turnsDone}
 use Rattle.sheet.specs.Listing.{Told, Ending, listedIn, fieldsFrom, played}
@@ -113,13 +115,13 @@ module _ {sheet board : List ℕ} (f : FloorAccepted sheet board) (bytes : Bytes
   none : openNumber (planned (f .plan)) board (f .plan .workers) ≡ 0
   none = sym (open-stop (f .plan) board) ∙ f .accepted
 
-  -- the opening that the sheet's floor asks for, with a record for each worker
+  -- the opening that the sheet's floor asks for, with a record for each worker, and with an index, which the sheet has not
   abbrev opening : Opening
   opening =
       record {
-        lent = record { board = board; floor = shutFloor; records = replicate (f .plan .workers) idle };
+        lent = record { board = board; floor = shutFloor; records = replicate (f .plan .workers) idle; index = replicate indexWords 0 };
         plan = f .plan;
-        accepted = rw (length-replicate (f .plan .workers) idle) none;
+        accepted = five-open (planned (f .plan)) board (replicate indexWords 0) _ refl ∙ rw (length-replicate (f .plan .workers) idle) none;
         version-fits = floor-version sheet bytes (f .plan) (f .next) (f .read);
       }
 
@@ -139,11 +141,17 @@ module _ {sheet board : List ℕ} (f : FloorAccepted sheet board) (bytes : Bytes
         board = openedBoard (f .plan .buckets) (f .plan .version);
         floor = planned (f .plan);
         records = replicate (f .plan .workers) idle;
+        index = replicate indexWords 0;
       }
   unfolding stateFrom
   first-state =
       let laid : ℕ → State =
-      λ n. record { board = openedBoard (f .plan .buckets) (f .plan .version); floor = planned (f .plan); records = replicate n idle } in
+      λ n. record {
+        board = openedBoard (f .plan .buckets) (f .plan .version);
+        floor = planned (f .plan);
+        records = replicate n idle;
+        index = replicate indexWords 0;
+      } in
       opened-is opening ∙ ap laid (length-replicate (f .plan .workers) idle)
 
   -- no turn is counted, and none listed

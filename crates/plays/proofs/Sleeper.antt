@@ -12,6 +12,7 @@ use Rattle.sheet.specs.Line as Line
 use Rattle.sheet.specs.Play as Play
 use Rattle.sheet.specs.Listing as Listing
 use Rattle.sheet.specs.Listing.{listing}
+use Rattle.engine.specs.Calls as Calls
 use Rattle.history.proofs.Reached.{computed}
 use Rattle.plays.specs.Points.{Bytes, FloorAccepted}
 use Rattle.plays.specs.Sleeper.{sleeperSheet, sleeperListing}
@@ -34,7 +35,7 @@ sleeper-bytes = are-bytes sleeperSheet refl
 -- its floor is accepted
 pub sleeper-accepted : FloorAccepted sleeperSheet (replicate 8 0)
 unfolding
-    computed Fields.readField Fields.isWhole Fields.numberAt Fields.fieldOf Fields.openingAt Play.openField
+    computed Calls.openCall Calls.turnCall Fields.readField Fields.isWhole Fields.numberAt Fields.fieldOf Fields.openingAt Play.openField
 sleeper-accepted =
     record {
       short = omega arith;
@@ -47,7 +48,7 @@ sleeper-accepted =
 -- and it is listed so
 pub sleeper-listed : listing sleeperSheet ≡ sleeperListing
 unfolding
-    computed Fields.readField Fields.isWhole Fields.numberAt Fields.fieldOf Fields.openingAt Fields.callingAt Fields.turningAt
+    computed Calls.openCall Calls.turnCall Fields.readField Fields.isWhole Fields.numberAt Fields.fieldOf Fields.openingAt Fields.callingAt Fields.turningAt
     Fields.callFits Fields.ticketAt Line.decimalIn Play.openField Play.asked Play.callField Play.turnAtDesk Play.turnsDone
     Listing.fieldsFrom Listing.played Listing.wordsAsked Listing.ownPlay Listing.listing
 sleeper-listed = refl

@@ -1,7 +1,7 @@
 -- A point of a play that stands as the calls so far leave an opened board: what its worker's seat and record are there. Assumes nothing.
 use Prim.Native.Nat.{ℕ, zero, suc, _≤_, _<_}
 use mathlib.Core.Bool.{Bool}
-use mathlib.Core.Path.{_≡_, refl, sym, ap, _∙_}
+use mathlib.Core.Path.{_≡_, refl, sym, ap, _∙_, subst}
 use mathlib.Core.List.{List, [], _∷_, map}
 use native.Mathlib.Decide.{decLe}
 use native.Mathlib.Omega.{arith}
@@ -14,6 +14,7 @@ use Rattle.engine.specs.declared.Floor.{Floor}
 use Rattle.engine.specs.Refusals.{startNumber, eachNumber, turnNumber}
 use Rattle.engine.specs.Calls.{recordIn, blank, afterTurn}
 use Rattle.engine.proofs.Sizes.{right-listed}
+use Rattle.hall.proofs.Same.{turn-same-number}
 use Rattle.sheet.specs.Play.{seatAt}
 use Rattle.history.specs.History.{State, Opening, Call, listedOf, seatOf, workersOf, state}
 use Rattle.history.specs.Numbers.{OneOf}
@@ -144,4 +145,5 @@ module _ (o : Opening) (done : List Call) (p : Point) (so : Stands o done p) whe
       → OneOf (0 ∷ 2 ∷ 6 ∷ []) (turnNumber (p .left .handed .floor) words (p .left .handed .floor .workers) i (recordIn ws i))
   turn-number-is i =
       let number : Worker → ℕ = λ w. turnNumber (s .floor) (s .board) (length (s .records)) i w in
-      rw (same-floor, ← listed, so .stands .board, ← same-number number i (turn-past (s .floor) (s .board) _ i)) (turn-numbers s ok i)
+      rw (same-floor, ← listed, so .stands .board, ← same-number number i (turn-past (s .floor) (s .board) _ i))
+      (subst (OneOf (0 ∷ 2 ∷ 6 ∷ [])) (turn-same-number (s .floor) (ok .reads) (length (s .records)) i (listedOf s i)) (turn-numbers s ok i))

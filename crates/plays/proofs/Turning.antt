@@ -17,14 +17,16 @@ use Rattle.engine.specs.Calls.{recordIn, afterTurn, tallied, reportOn, turnDone
 use Rattle.engine.proofs.Keeps.{turn-accepted}
 use Rattle.engine.proofs.Numbers.{turn-number}
 use Rattle.engine.proofs.Sleeping.{after-long}
+use Rattle.hall.proofs.Same.{turn-same}
 use Rattle.engine.proofs.Tallies.{losses-lost, losses-other, changes-change, changes-other}
 use Rattle.sheet.specs.Play.{Desk, outcome, seatAt, recordOf, endedLine, turnListed, turnAtDesk}
 use Rattle.history.specs.Trace.{Turn, Entry, acted, total}
 use Rattle.history.specs.Counts.{isTurn, isLost, isChange, oneIf, turnsIn, countsOf}
-use Rattle.history.specs.History.{State, Opening, Call, turn, turnBy, turnedAs, entryOf, opened, state, trace}
+use Rattle.history.specs.History.{State, Opening, Call, turn, listedOf, seatOf, turnBy, turnedAs, entryOf, opened, state, trace}
 use Rattle.history.proofs.Counts.{one-is, total-append}
 use Rattle.history.proofs.Runs.{same-totals}
 use Rattle.history.proofs.Listed.{up-is}
+use Rattle.history.proofs.Unbroken.{state-unbroken}
 use Rattle.history.proofs.Histories.{stateFrom-then, traceFrom-then}
 use Rattle.plays.specs.Points.{Point}
 use Rattle.plays.specs.Plays.{lineFor}
@@ -102,8 +104,11 @@ module _ (o : Opening) (done : List Call) (p : Point) (so : Stands o done p) (i 
       ap (λ (x : After Turned). turnListed i w (x .words) (x .handed .worker) (x .handed .answer) d)
       (turn-done (p .left .words) (seatAt f i) w none)
 
+  -- the sheet has no index, and the history's makes no turn another
   history-turn : turnBy s i ≡ did
-  history-turn = rw (← so .stands .board, seat-same o done p so i, record-same o done p so i known) (turn-done (p .left .words) (seatAt f i) w none)
+  history-turn =
+      turn-same (seatOf s i) (state-unbroken o done .reads) (listedOf s i)
+      ∙ rw (← so .stands .board, seat-same o done p so i, record-same o done p so i known) (turn-done (p .left .words) (seatAt f i) w none)
 
   -- its entry, for a worker with this record before it
   abbrev entryFor : Worker → Turn

@@ -88,6 +88,19 @@ fn turn_refusal(lent: &[u64], w: Worker) -> u8
     refusal::BROKEN_RECORD
 }
 
+// §7.2: the same number where it is only asked for: with a second caller `turn_refusal` would not be built into a turn (decision 178).
+pub fn turn_number(lent: &[u64], w: Worker) -> u8
+    ensures { λ r. ⌜ r ≡ turnRefusal (now (lent .entry)) w ⌝ }
+{
+    if record::is_idle(w) {
+        return refusal::IDLE_WORKER;
+    }
+    if record::is_sound(w) {
+        return bucket_refusal(lent);
+    }
+    refusal::BROKEN_RECORD
+}
+
 // §6.7: 7 for a broken bucket, or 0.
 fn bucket_refusal(lent: &[u64]) -> u8
     ensures { λ r. ⌜ r ≡ bucketRefusal (now (lent .entry)) ⌝ }

@@ -29,3 +29,6 @@ pub const TOO_LONG: u8 = 9;
 
 // §6.10: all orders of a class that is not a small one.
 pub const NO_SMALL_CLASS: u8 = 10;
+
+// §6.11: an index that does not tell what the bucket's marks do.
+pub const UNTRUE_INDEX: u8 = 11;

@@ -20,7 +20,7 @@ fn held_refusal(lent: &[u64], w: Worker) -> u8
 }
 
 // §7.2: the number of refusal, or 0.
-fn retire_refusal(lent: &[u64], w: Worker) -> u8
+pub fn retire_refusal(lent: &[u64], w: Worker) -> u8
     ensures { λ r. ⌜ r ≡ retireRefusal (now (lent .entry)) w ⌝ }
 {
     if record::is_sound(w) {

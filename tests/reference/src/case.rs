@@ -14,15 +14,20 @@ pub const SHOW: u8 = 6;
 pub const COUNT: u8 = 7;
 pub const ORDERS: u8 = 8;
 pub const RETIRE: u8 = 9;
+pub const TOTAL: u8 = 10;
+pub const NEXT: u8 = 11;
 
-pub const NAMES: [&str; 10] = [
+pub const NAMES: [&str; 12] = [
     "open", "look", "insert", "remove", "turn", "run", "show", "count", "orders", "retire",
+    "total", "next",
 ];
 
 /// A board of more words counts as one of so many.
 pub const MOST_WORDS: u64 = 2_064;
 /// A list of more records counts as one of so many: what a list can have, and as many more as a byte has values.
 pub const MOST_RECORDS: u64 = 64 + 256;
+/// An index of more words counts as one of so many: what an index has, and as many more as a bucket has.
+pub const MOST_INDEX_WORDS: u64 = 5 + 8;
 /// Turns past so many are left out.
 pub const MOST_TURNS_READ: usize = 65_540;
 
@@ -33,7 +38,7 @@ const LONGER: u8 = 247;
 pub struct Case {
     pub call: u8,
     pub floor: Floor,
-    /// For an opening: W. For all orders: the depth.
+    /// For an opening: W. For all orders: the depth. For the next occupied bucket: the one that is asked from.
     pub worker: u64,
     /// For an opening: N.
     pub lot: u64,
@@ -41,6 +46,7 @@ pub struct Case {
     pub ticket: u32,
     pub board: Vec<u64>,
     pub list: List,
+    pub index: Vec<u64>,
     pub turns: Vec<u8>,
 }
 
@@ -77,8 +83,9 @@ impl Case {
             worker: bytes.number(),
             lot: bytes.number(),
             ticket: bytes.number() as u32,
-            board: bytes.board(),
+            board: bytes.words(MOST_WORDS),
             list: bytes.list(),
+            index: bytes.words(MOST_INDEX_WORDS),
             turns: bytes.turns(),
         }
     }
@@ -93,19 +100,16 @@ impl Case {
             self.worker,
             self.lot,
             self.ticket.into(),
-            self.board.len() as u64,
         ] {
             push_number(&mut body, number);
         }
-        for (word, count) in groups(&self.board, 256) {
-            body.push((count - 1) as u8);
-            push_number(&mut body, word);
-        }
+        push_words(&mut body, &self.board);
         push_number(&mut body, self.list.length);
         for (record, count) in groups(&self.list.records, 256) {
             body.push((count - 1) as u8);
             push_record(&mut body, &record);
         }
+        push_words(&mut body, &self.index);
         for (worker, count) in groups(&self.turns, 65_535) {
             body.push(worker);
             body.extend((count as u16).to_be_bytes());
@@ -134,6 +138,15 @@ fn push_number(body: &mut Vec<u8>, number: u64) {
     let first = bytes.iter().position(|&byte| byte != 0).unwrap_or(7);
     body.push(LONGER + (8 - first) as u8);
     body.extend(&bytes[first..]);
+}
+
+/// How many words there are, and the words in groups.
+fn push_words(body: &mut Vec<u8>, words: &[u64]) {
+    push_number(body, words.len() as u64);
+    for (word, count) in groups(words, 256) {
+        body.push((count - 1) as u8);
+        push_number(body, word);
+    }
 }
 
 fn push_record(body: &mut Vec<u8>, record: &Record) {
@@ -178,8 +191,9 @@ impl Bytes<'_> {
         (LONGER..first).fold(0, |number, _| number << 8 | u64::from(self.byte()))
     }
 
-    fn board(&mut self) -> Vec<u64> {
-        let length = self.number().min(MOST_WORDS) as usize;
+    /// The board or the index, of which there are so many words at most.
+    fn words(&mut self, most: u64) -> Vec<u64> {
+        let length = self.number().min(most) as usize;
         self.grouped(length, Bytes::number)
     }
 

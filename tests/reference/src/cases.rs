@@ -3,6 +3,8 @@
 mod asleep;
 mod broken;
 mod build;
+mod display;
+mod index;
 pub mod length;
 mod loose;
 mod orders;
@@ -47,6 +49,8 @@ fn round(seed: u64) -> Bodies {
     orders::make(&mut bodies);
     retire::make(&mut bodies);
     asleep::make(&mut bodies);
+    index::make(&mut bodies);
+    display::make(&mut bodies);
     loose::make(&mut bodies);
     bodies
 }

@@ -2,6 +2,8 @@
 
 mod asleep;
 mod broken;
+mod display;
+mod index;
 mod orders;
 mod places;
 mod points;
@@ -43,6 +45,8 @@ impl Coverage {
         orders::see(case, outcome, &mut met);
         retire::see(case, outcome, &mut met);
         asleep::see(case, outcome, &mut met);
+        index::see(case, outcome, &mut met);
+        display::see(case, outcome, &mut met);
         met.sort();
         met.dedup();
         for point in met {

@@ -1,11 +1,12 @@
-//! The desk: floor, board and list, and every call with its refusals in their order.
+//! The desk: floor, board, list and index, and every call with its refusals in their order.
 
 use crate::call::Call;
+use crate::index::Index;
 use crate::memory::{Board, Bucket, BUCKET_WORDS};
 use crate::orders::{Walking, Walks};
 use crate::record::{Record, INSERT, NONE};
 use crate::report::{Ran, Report};
-use crate::word::{snap_set_map_and_inc_version, Snapshot, MAP_INVLD, MAP_VALID};
+use crate::word::{snap_set_map_and_inc_version, Snapshot, MAP_INVLD};
 
 /// A number of refusal.
 pub type Refusal = u8;
@@ -48,19 +49,21 @@ pub struct Desk {
     pub floor: Floor,
     pub board: Board,
     pub list: List,
+    pub index: Index,
     manner: Manner,
     calls: Vec<Option<Call>>,
 }
 
 impl Desk {
     /// A desk as somebody brings it; nothing in it is running.
-    pub fn brought(floor: Floor, words: &[u64], list: List, manner: Manner) -> Desk {
+    pub fn brought(floor: Floor, words: &[u64], list: List, index: Index, manner: Manner) -> Desk {
         let mut calls = Vec::new();
         calls.resize_with(list.records.len(), || None);
         Desk {
             floor,
             board: Board::of(words),
             list,
+            index,
             manner,
             calls,
         }
@@ -78,14 +81,16 @@ impl Desk {
             length: w,
             records: vec![Record::idle(); w.min(MOST_WORKERS) as usize],
         };
-        let mut desk = Desk::brought(floor, &words, list, manner);
+        let mut desk = Desk::brought(floor, &words, list, Index::made(), manner);
         desk.open(w, n, version)?;
         Ok(desk)
     }
 
     /// §2.10; refused by 1 only.
     pub fn open(&mut self, w: u64, n: u64, version: u32) -> Result<(), Refusal> {
-        self.measure(w, n, true)?;
+        self.measure(w, n)?;
+        self.measure_list(w)?;
+        self.measure_index()?;
         let empty = Snapshot {
             version,
             map: [MAP_INVLD; 3],
@@ -98,6 +103,7 @@ impl Desk {
         }
         self.list.records.fill(Record::idle());
         self.calls.fill_with(|| None);
+        self.index = Index::made();
         self.floor = Floor {
             workers: w,
             buckets: n,
@@ -108,7 +114,8 @@ impl Desk {
 
     /// §3.4; refused as §7.2 has it.
     pub fn start(&mut self, kind: u8, worker: u64, lot: u64, ticket: u32) -> Result<(), Refusal> {
-        self.measure(self.floor.workers, self.floor.buckets, true)?;
+        self.measure(self.floor.workers, self.floor.buckets)?;
+        self.measure_list(self.floor.workers)?;
         let at = self.sound_worker(worker)?;
         if !self.list.records[at].is_idle() {
             return Err(4);
@@ -128,21 +135,20 @@ impl Desk {
 
     /// §4.1; refused as §7.2 has it.
     pub fn turn(&mut self, worker: u64) -> Result<Report, Refusal> {
-        self.measure(self.floor.workers, self.floor.buckets, true)?;
+        self.measure_all()?;
         let at = self.sound_worker(worker)?;
         let record = self.list.records[at];
         if record.is_idle() {
             return Err(6);
         }
-        let bucket = self.bucket_of(record.key);
-        if bucket.is_broken() {
-            return Err(7);
-        }
+        let bucket = self.touched(record.key)?;
+        let valid = bucket.valid_slots();
         let mut call = match self.calls[at].take() {
             Some(call) => call,
-            None => Call::resume(&record, bucket),
+            None => Call::resume(&record, bucket.clone()),
         };
         let report = call.turn();
+        self.keep_index(&bucket, valid);
         self.list.records[at] = match report.ended {
             Some(_) => Record::idle(),
             None => call.record(),
@@ -168,7 +174,7 @@ impl Desk {
         told: &mut dyn FnMut(u8, &Record, &Report),
     ) -> (Refusal, Ran) {
         let mut ran = Ran::none();
-        if let Err(refusal) = self.measure(self.floor.workers, self.floor.buckets, true) {
+        if let Err(refusal) = self.measure_all() {
             return (refusal, ran);
         }
         if turns.len() > MOST_TURNS {
@@ -189,14 +195,14 @@ impl Desk {
 
     /// Item 7 of the second document; refused as §7.2 has it. The call is dropped where it stands, and no turn tells of it.
     pub fn retire(&mut self, worker: u64) -> Result<(), Refusal> {
-        self.measure(self.floor.workers, self.floor.buckets, true)?;
+        self.measure_all()?;
         let at = self.sound_worker(worker)?;
         let record = self.list.records[at];
         if record.is_idle() {
             return Err(6);
         }
         if record.held != NONE {
-            self.free(self.bucket_of(record.key), record.held)?;
+            self.free(record.key, record.held)?;
         }
         self.list.records[at] = Record::idle();
         self.keep(at, None);
@@ -205,18 +211,37 @@ impl Desk {
 
     /// Takes a retired worker's mark away, whichever it is, and counts the version on in the same act. The word is the one that stands:
     /// what the worker had in mind does not matter.
-    fn free(&self, bucket: Bucket, held: u8) -> Result<(), Refusal> {
+    fn free(&mut self, lot: u64, held: u8) -> Result<(), Refusal> {
+        let bucket = self.touched(lot)?;
+        let valid = bucket.valid_slots();
+        let freed = snap_set_map_and_inc_version(bucket.snapshot(), held, MAP_INVLD);
+        bucket.set_snapshot(freed);
+        self.keep_index(&bucket, valid);
+        Ok(())
+    }
+
+    /// 7 and 11; the bucket that a turn or a retiring touches, which is the lot's.
+    fn touched(&self, lot: u64) -> Result<Bucket, Refusal> {
+        let bucket = self.bucket_of(lot);
         if bucket.is_broken() {
             return Err(7);
         }
-        let freed = snap_set_map_and_inc_version(bucket.snapshot(), held, MAP_INVLD);
-        bucket.set_snapshot(freed);
-        Ok(())
+        let (number, valid) = (bucket.number as u64, bucket.valid_slots());
+        if !self.index.agrees(number, valid, self.floor.buckets) {
+            return Err(11);
+        }
+        Ok(bucket)
+    }
+
+    /// §21.2, after something was done in a bucket that had so many valid slots before.
+    fn keep_index(&mut self, bucket: &Bucket, before: u64) {
+        self.index
+            .keep(bucket.number as u64, before, bucket.valid_slots());
     }
 
     /// §2.8: where the lot's bucket starts on the board, and its words.
     pub fn show(&self, lot: u64) -> Result<(usize, Vec<u64>), Refusal> {
-        self.measure(self.floor.workers, self.floor.buckets, false)?;
+        self.measure(self.floor.workers, self.floor.buckets)?;
         if self.bucket_of(lot).is_broken() {
             return Err(7);
         }
@@ -229,16 +254,26 @@ impl Desk {
 
     /// §2.9: a lot that is being inserted is not on the board yet; refused as §7.2 has it.
     pub fn count(&self) -> Result<u64, Refusal> {
-        self.measure(self.floor.workers, self.floor.buckets, false)?;
+        self.measure(self.floor.workers, self.floor.buckets)?;
         let buckets = || (0..self.floor.buckets as usize).map(|number| self.board.bucket(number));
         if buckets().any(|bucket| bucket.is_broken()) {
             return Err(7);
         }
-        let lots = buckets()
-            .flat_map(|bucket| Snapshot::of(bucket.snapshot()).map)
-            .filter(|&mark| mark == MAP_VALID)
-            .count();
-        Ok(lots as u64)
+        Ok(buckets().map(|bucket| bucket.valid_slots()).sum())
+    }
+
+    /// §21.3: by the index alone, whatever the board is; refused by 1 only.
+    pub fn total(&self) -> Result<u64, Refusal> {
+        self.measure(self.floor.workers, self.floor.buckets)?;
+        self.measure_index()?;
+        Ok(self.index.total())
+    }
+
+    /// §21.4: likewise.
+    pub fn next_occupied(&self, from: u64) -> Result<Option<u64>, Refusal> {
+        self.measure(self.floor.workers, self.floor.buckets)?;
+        self.measure_index()?;
+        Ok(self.index.next_occupied(from, self.floor.buckets))
     }
 
     /// §18: all orders to the depth; refused as §7.2 has it.
@@ -252,7 +287,8 @@ impl Desk {
 
     /// The same, before the first turn.
     pub fn outset(&self, depth: u64) -> Result<Walking, Refusal> {
-        self.measure(self.floor.workers, self.floor.buckets, true)?;
+        self.measure(self.floor.workers, self.floor.buckets)?;
+        self.measure_list(self.floor.workers)?;
         if !self.is_small_class() || !(1..=MOST_DEPTH).contains(&depth) {
             return Err(10);
         }
@@ -270,16 +306,29 @@ impl Desk {
         self.floor.workers <= SMALL_WORKERS && self.floor.buckets <= SMALL_BUCKETS
     }
 
-    /// §6.1.
-    fn measure(&self, w: u64, n: u64, takes_list: bool) -> Result<(), Refusal> {
+    /// §6.1, of what every call is given.
+    fn measure(&self, w: u64, n: u64) -> Result<(), Refusal> {
         let sized = (1..=MOST_WORKERS).contains(&w)
             && (1..=MOST_BUCKETS).contains(&n)
             && self.board.len() as u64 == BUCKET_WORDS as u64 * n;
-        if sized && (!takes_list || self.list.length == w) {
-            Ok(())
-        } else {
-            Err(1)
-        }
+        sized.then_some(()).ok_or(1)
+    }
+
+    /// §6.1, where a call is given a list.
+    fn measure_list(&self, w: u64) -> Result<(), Refusal> {
+        (self.list.length == w).then_some(()).ok_or(1)
+    }
+
+    /// §6.1, where a call is given an index.
+    fn measure_index(&self) -> Result<(), Refusal> {
+        self.index.is_sized().then_some(()).ok_or(1)
+    }
+
+    /// §6.1, where a call is given both.
+    fn measure_all(&self) -> Result<(), Refusal> {
+        self.measure(self.floor.workers, self.floor.buckets)?;
+        self.measure_list(self.floor.workers)?;
+        self.measure_index()
     }
 
     /// 2 and 3; where the worker's record stands in the list.

@@ -6,6 +6,7 @@ pub mod call;
 pub mod desk;
 pub mod figures;
 pub mod frame;
+pub mod index;
 pub mod memory;
 pub mod orders;
 pub mod record;

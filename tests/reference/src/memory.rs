@@ -90,6 +90,10 @@ impl Bucket {
         self.cell(VALUES + index as usize).set(val);
     }
 
+    pub fn valid_slots(&self) -> u64 {
+        Snapshot::of(self.snapshot()).valid_slots()
+    }
+
     /// §2.7.
     pub fn is_broken(&self) -> bool {
         !Snapshot::of(self.snapshot()).is_sound() || self.cell(SPARE).get() != 0

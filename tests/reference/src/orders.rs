@@ -2,6 +2,7 @@
 //! table of states, each with how many orders lead to it, and the next level comes of one more turn of each busy worker in each state.
 
 use crate::desk::{Desk, Floor, List, Manner};
+use crate::index::Index;
 use crate::record::Record;
 use crate::report::{Action, Report};
 use std::collections::HashMap;
@@ -70,13 +71,15 @@ impl State {
         self.records.iter().all(Record::is_idle)
     }
 
-    /// The state after one more turn, which is this worker's, and the turn's report.
+    /// The state after one more turn, which is this worker's, and the turn's report. All orders is lent no index, so the turn gets one of
+    /// its own, which is true of these words.
     fn after(&self, floor: Floor, worker: usize) -> (State, Report) {
         let list = List {
             length: floor.workers,
             records: self.records.clone(),
         };
-        let mut desk = Desk::brought(floor, &self.words, list, Manner::Remade);
+        let index = Index::counted(&self.words);
+        let mut desk = Desk::brought(floor, &self.words, list, index, Manner::Remade);
         let turn = desk.turn(worker as u64);
         let report = turn.expect("§18.3: no turn of a walk is refused");
         let lost = self.lost + u64::from(report.action == Action::Lost);

@@ -2,6 +2,7 @@
 
 use crate::case::{self, fields, groups, Case};
 use crate::desk::{Desk, Floor, Manner, Refusal};
+use crate::index::Index;
 use crate::orders::Walks;
 use crate::record::Record;
 use crate::report::{Action, Counts, Ran, Report};
@@ -16,6 +17,8 @@ pub enum Answer {
     Show(Result<(usize, Vec<u64>), Refusal>),
     Count(Result<u64, Refusal>),
     Orders(Result<Walks, Refusal>),
+    Total(Result<u64, Refusal>),
+    Next(Result<Option<u64>, Refusal>),
 }
 
 impl Answer {
@@ -27,7 +30,9 @@ impl Answer {
             | Answer::Run(number, _)
             | Answer::Show(Err(number))
             | Answer::Count(Err(number))
-            | Answer::Orders(Err(number)) => *number,
+            | Answer::Orders(Err(number))
+            | Answer::Total(Err(number))
+            | Answer::Next(Err(number)) => *number,
             _ => 0,
         }
     }
@@ -42,13 +47,21 @@ pub struct Outcome {
     pub floor: Floor,
     pub board: Vec<u64>,
     pub records: Vec<Record>,
+    pub index: Vec<u64>,
     /// The turns of a run one by one; no part of the line.
     pub told: Vec<Told>,
 }
 
 /// The desk that a case brings.
 pub fn brought(case: &Case) -> Desk {
-    Desk::brought(case.floor, &case.board, case.list.clone(), Manner::Remade)
+    let index = Index(case.index.clone());
+    Desk::brought(
+        case.floor,
+        &case.board,
+        case.list.clone(),
+        index,
+        Manner::Remade,
+    )
 }
 
 /// Does the case's call on what the case brings.
@@ -61,6 +74,7 @@ pub fn outcome(case: &Case) -> Outcome {
         floor: desk.floor,
         board: desk.board.words(),
         records: desk.list.records,
+        index: desk.index.0,
         told,
     }
 }
@@ -87,7 +101,9 @@ fn call(case: &Case, desk: &mut Desk, told: &mut Vec<Told>) -> Answer {
         case::SHOW => Answer::Show(desk.show(lot)),
         case::COUNT => Answer::Count(desk.count()),
         case::ORDERS => Answer::Orders(desk.orders(worker)),
-        _ => Answer::Alone(desk.retire(worker)),
+        case::RETIRE => Answer::Alone(desk.retire(worker)),
+        case::TOTAL => Answer::Total(desk.total()),
+        _ => Answer::Next(desk.next_occupied(worker)),
     }
 }
 
@@ -110,6 +126,8 @@ pub fn line(case: &Case, outcome: &Outcome) -> String {
         push(&mut line, format_args!("{}", fields.join(".")));
         push_count(&mut line, count);
     }
+    push(&mut line, format_args!("|"));
+    push_words(&mut line, &outcome.index);
     line.push('\n');
     line
 }
@@ -138,10 +156,19 @@ fn push_answer(line: &mut String, answer: &Answer) {
             push(line, format_args!("|"));
             push_words(line, &part);
         }
-        Answer::Count(count) => push_numbers(line, &[number, count.unwrap_or(0)]),
+        Answer::Count(count) | Answer::Total(count) => {
+            push_numbers(line, &[number, count.unwrap_or(0)])
+        }
         Answer::Orders(walks) => {
             push_numbers(line, &[number]);
             push_numbers(line, &walks.unwrap_or_default().counts());
+        }
+        Answer::Next(next) => {
+            let bucket = next.unwrap_or(None);
+            push_numbers(
+                line,
+                &[number, bucket.is_some().into(), bucket.unwrap_or(0)],
+            );
         }
     }
 }

@@ -38,6 +38,12 @@ impl Snapshot {
     pub fn is_sound(self) -> bool {
         self.map.iter().all(|&mark| mark <= MAP_INSRT) && self.byte_7 == 0
     }
+
+    /// §2.9: how many slots are lots on the board; one that is being inserted is none yet.
+    pub fn valid_slots(self) -> u64 {
+        let valid = self.map.iter().filter(|&&mark| mark == MAP_VALID);
+        valid.count() as u64
+    }
 }
 
 /// Figure 5, lines 1 to 14: the first empty spot, or -1.

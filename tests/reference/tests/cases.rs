@@ -1,6 +1,6 @@
 //! Cases: written and read back, the lines of the format's own examples, and the stored ones as a whole.
 
-use reference::case::{pieces, with_length, Case, RETIRE};
+use reference::case::{pieces, with_length, Case, NEXT, OPEN, RETIRE, TOTAL};
 use reference::desk::{Floor, List};
 use reference::outcome::{line, lines, outcome, Answer};
 use reference::record::{Record, INSERT, LOOK, NONE};
@@ -27,6 +27,7 @@ fn numbers_read_back() {
             case.worker = number;
             case.floor.workers = number;
             case.board = vec![number, number, 0];
+            case.index = vec![0, number, number, number, 1, 0];
             assert_eq!(read_back(&case), case);
         }
     }
@@ -49,11 +50,15 @@ fn missing_bytes_are_0() {
             length: 0,
             records: vec![],
         },
+        index: vec![],
         turns: vec![],
     };
     assert_eq!(Case::read(&[]), empty);
-    assert_eq!(Case::read(&[10]), empty);
-    assert_eq!(Case::read(&[19]).call, RETIRE);
+    assert_eq!(Case::read(&[12]), empty);
+    assert_eq!(Case::read(&[21]).call, RETIRE);
+    assert_eq!(Case::read(&[22]).call, TOTAL);
+    assert_eq!(Case::read(&[23]).call, NEXT);
+    assert_eq!(Case::read(&[252]).call, OPEN);
     let words = Case::read(&[0, 0, 0, 0, 0, 0, 0, 3, 0, 5]);
     assert_eq!(words.board, vec![5, 0, 0]);
 }
@@ -82,12 +87,21 @@ fn bounds_of_the_format() {
             ..Record::idle()
         }]
     );
+    // call, floor, numbers, board, list: the index, and the turns behind it
     let mut body = vec![0; 9];
+    body.extend([14, 1, 7, 255, 9, 3, 0, 2]);
+    let case = Case::read(&body);
+    assert_eq!(case.index, [vec![7; 2], vec![9; 11]].concat());
+    assert_eq!(case.turns, [3, 3]);
+    let mut body = vec![0; 9];
+    body.extend([249, 255, 255, 0, 249, 1, 2, 3]);
+    assert_eq!(Case::read(&body).index, [vec![0x102], vec![0; 12]].concat());
+    let mut body = vec![0; 10];
     body.extend([1, 0, 2, 3, 255, 255, 4, 255, 255, 5, 1]);
     let turns = Case::read(&body).turns;
     assert_eq!(turns.len(), 65_540);
     assert_eq!((turns[1], turns[2], turns[65_537]), (1, 3, 4));
-    body.truncate(14);
+    body.truncate(15);
     assert_eq!(Case::read(&body).turns.len(), 2 + 0xff00);
 }
 
@@ -97,7 +111,7 @@ fn streams() {
     let bodies: Vec<&[u8]> = pieces(&stream).map(|piece| &piece[2..]).collect();
     assert_eq!(bodies, [&[4, 1][..], &[], &[6, 1]]);
     assert_eq!(pieces(&[0]).count(), 0);
-    assert_eq!(lines(&[0, 0, 0]), "open 1 | 0 0 0 | |\n");
+    assert_eq!(lines(&[0, 0, 0]), "open 1 | 0 0 0 | | |\n");
 }
 
 fn opened(call: u8, w: u64) -> Case {
@@ -109,6 +123,7 @@ fn opened(call: u8, w: u64) -> Case {
         length: w,
         records: vec![Record::idle(); w as usize],
     };
+    case.index = vec![0; 5];
     case
 }
 
@@ -122,7 +137,7 @@ fn lines_of_the_format() {
     (insert.lot, insert.ticket) = (7, 1);
     assert_eq!(
         line_of(&insert),
-        "insert 0 | 2 1 1 | 0*8 | 2.1.7.1.0.0.3.0.0 0.0.0.0.0.0.3.0.0\n"
+        "insert 0 | 2 1 1 | 0*8 | 2.1.7.1.0.0.3.0.0 0.0.0.0.0.0.3.0.0 | 0*5\n"
     );
     let mut turn = opened(4, 1);
     turn.floor.last_ticket = 1;
@@ -140,7 +155,7 @@ fn lines_of_the_format() {
     };
     assert_eq!(
         line_of(&turn),
-        "turn 0 3 1 1 0 0 200000000 100000001 | 1 1 1 | 100000001 7 0*2 1 0*3 | 0.0.0.0.0.0.3.0.0\n"
+        "turn 0 3 1 1 0 0 200000000 100000001 | 1 1 1 | 100000001 7 0*2 1 0*3 | 0.0.0.0.0.0.3.0.0 | 1*2 0*3\n"
     );
     let twice = Case {
         call: 5,
@@ -149,19 +164,19 @@ fn lines_of_the_format() {
     };
     assert_eq!(
         line_of(&twice),
-        "run 6 1 1 0 0 3 1 1 0 0 200000000 100000001 | 1 1 1 | 100000001 7 0*2 1 0*3 | 0.0.0.0.0.0.3.0.0\n"
+        "run 6 1 1 0 0 3 1 1 0 0 200000000 100000001 | 1 1 1 | 100000001 7 0*2 1 0*3 | 0.0.0.0.0.0.3.0.0 | 1*2 0*3\n"
     );
     assert_eq!(
         line_of(&opened(4, 1)),
-        "turn 6 0 0 0 0 0 0 0 | 1 1 0 | 0*8 | 0.0.0.0.0.0.3.0.0\n"
+        "turn 6 0 0 0 0 0 0 0 | 1 1 0 | 0*8 | 0.0.0.0.0.0.3.0.0 | 0*5\n"
     );
     assert_eq!(
         line_of(&opened(5, 1)),
-        "run 0 0 0 0 0 1 0 0 0 0 0 0 | 1 1 0 | 0*8 | 0.0.0.0.0.0.3.0.0\n"
+        "run 0 0 0 0 0 1 0 0 0 0 0 0 | 1 1 0 | 0*8 | 0.0.0.0.0.0.3.0.0 | 0*5\n"
     );
     assert_eq!(
         line_of(&opened(6, 1)),
-        "show 0 0 | 0*8 | 1 1 0 | 0*8 | 0.0.0.0.0.0.3.0.0\n"
+        "show 0 0 | 0*8 | 1 1 0 | 0*8 | 0.0.0.0.0.0.3.0.0 | 0*5\n"
     );
     let mut beside = opened(4, 3);
     let look = Record {
@@ -174,18 +189,18 @@ fn lines_of_the_format() {
     beside.list.records = vec![look, others[0], others[1]];
     assert_eq!(
         line_of(&beside),
-        "turn 0 1 0 0 0 0 0 0 | 3 1 0 | 0*8 | 1.3.7.0.0.0.3.0.0 1.2.7.0.0.0.3.0.a 1.2.7.0.0.0.3.0.ffffffff\n"
+        "turn 0 1 0 0 0 0 0 0 | 3 1 0 | 0*8 | 1.3.7.0.0.0.3.0.0 1.2.7.0.0.0.3.0.a 1.2.7.0.0.0.3.0.ffffffff | 0*5\n"
     );
     let mut orders = opened(8, 2);
     assert_eq!(
         line_of(&orders),
-        "orders a 0 0 0 0 | 2 1 0 | 0*8 | 0.0.0.0.0.0.3.0.0*2\n"
+        "orders a 0 0 0 0 | 2 1 0 | 0*8 | 0.0.0.0.0.0.3.0.0*2 | 0*5\n"
     );
     orders.worker = 24;
     orders.list.records.fill(look);
     assert_eq!(
         line_of(&orders),
-        "orders 0 39c 0 0 0 | 2 1 0 | 0*8 | 1.2.7.0.0.0.3.0.0*2\n"
+        "orders 0 39c 0 0 0 | 2 1 0 | 0*8 | 1.2.7.0.0.0.3.0.0*2 | 0*5\n"
     );
     let retire = Case {
         call: RETIRE,
@@ -193,11 +208,69 @@ fn lines_of_the_format() {
     };
     assert_eq!(
         line_of(&retire),
-        "retire 0 | 1 1 1 | 1 7 0*2 1 0*3 | 0.0.0.0.0.0.3.0.0\n"
+        "retire 0 | 1 1 1 | 1 7 0*2 1 0*3 | 0.0.0.0.0.0.3.0.0 | 0*5\n"
     );
     assert_eq!(
         line_of(&opened(9, 1)),
-        "retire 6 | 1 1 0 | 0*8 | 0.0.0.0.0.0.3.0.0\n"
+        "retire 6 | 1 1 0 | 0*8 | 0.0.0.0.0.0.3.0.0 | 0*5\n"
+    );
+}
+
+/// The index in each form it can have, 11, and the display's two questions.
+#[test]
+fn lines_with_an_index() {
+    let mut next = opened(11, 1);
+    next.floor.buckets = 256;
+    next.board = vec![0; 2_048];
+    next.index = vec![2, 0, 1, 0, 8];
+    for (from, line) in [
+        (0, "next 0 1 40"),
+        (65, "next 0 1 c3"),
+        (196, "next 0 0 0"),
+        (u64::MAX, "next 0 0 0"),
+    ] {
+        next.worker = from;
+        let rest = " | 1 100 0 | 0*800 | 0.0.0.0.0.0.3.0.0 | 2 0 1 0 8\n";
+        assert_eq!(line_of(&next), [line, rest].concat());
+    }
+    let mut total = opened(10, 1);
+    total.index = vec![u64::MAX, 0, 0, 0, 0];
+    assert_eq!(
+        line_of(&total),
+        "total 0 ffffffffffffffff | 1 1 0 | 0*8 | 0.0.0.0.0.0.3.0.0 | ffffffffffffffff 0*4\n"
+    );
+    total.index.pop();
+    assert_eq!(
+        line_of(&total),
+        "total 1 0 | 1 1 0 | 0*8 | 0.0.0.0.0.0.3.0.0 | ffffffffffffffff 0*3\n"
+    );
+    total.call = NEXT;
+    assert_eq!(
+        line_of(&total),
+        "next 1 0 0 | 1 1 0 | 0*8 | 0.0.0.0.0.0.3.0.0 | ffffffffffffffff 0*3\n"
+    );
+    let mut look = opened(1, 1);
+    look.index.clear();
+    assert_eq!(
+        line_of(&look),
+        "look 0 | 1 1 0 | 0*8 | 1.2.0.0.0.0.3.0.0 |\n"
+    );
+    let mut turn = Case { call: 4, ..look };
+    turn.list.records[0] = Record {
+        kind: LOOK,
+        place: 2,
+        ..Record::idle()
+    };
+    turn.index = vec![0, 1, 0, 0, 0];
+    assert_eq!(
+        line_of(&turn),
+        "turn b 0 0 0 0 0 0 0 | 1 1 0 | 0*8 | 1.2.0.0.0.0.3.0.0 | 0 1 0*3\n"
+    );
+    turn.index[0] = 1;
+    (turn.call, turn.turns) = (5, vec![0]);
+    assert_eq!(
+        line_of(&turn),
+        "run b 0 0 0 0 1 0 0 0 0 0 0 | 1 1 0 | 0*8 | 1.2.0.0.0.0.3.0.0 | 1*2 0*3\n"
     );
 }
 
@@ -210,6 +283,7 @@ fn a_refused_call_changes_nothing() {
             assert_eq!(came.floor, case.floor);
             assert_eq!(came.board, case.board);
             assert_eq!(came.records, case.list.records);
+            assert_eq!(came.index, case.index);
         }
     }
 }
@@ -280,8 +354,8 @@ fn the_stored_cases_meet_every_point() {
     assert_eq!(stored.coverage.unmet(), Vec::<String>::new());
     assert_eq!(lines(&stored.stream), stored.lines);
     assert!(stored.lines.lines().count() >= 5_000);
-    // a mebibyte and a half
-    assert!(stored.stream.len() + stored.lines.len() < 12 << 17);
+    // a mebibyte and seven eighths
+    assert!(stored.stream.len() + stored.lines.len() < 15 << 17);
 }
 
 #[test]

@@ -4,6 +4,7 @@
 //! the records.
 
 use reference::desk::{Desk, Manner};
+use reference::index::Index;
 use reference::random::Random;
 use reference::record::{INSERT, LOOK, NONE, REMOVE};
 use reference::report::Report;
@@ -147,6 +148,8 @@ impl Room {
         for (at, word) in words.into_iter().enumerate() {
             self.desk.board.set(start + at, word);
         }
+        // else the index would refuse the next turn
+        self.desk.index = Index::counted(&self.desk.board.words());
     }
 
     /// The kinds and places of the calls that stand in the lot's bucket.

@@ -11,6 +11,7 @@ fn assert_same(one: &Desk, other: &Desk) {
     assert_eq!(one.floor, other.floor);
     assert_eq!(one.board.words(), other.board.words());
     assert_eq!(one.list, other.list);
+    assert_eq!(one.index, other.index);
 }
 
 /// The kinds and places of calls.

@@ -291,13 +291,15 @@ fn lost_swaps_are_bounded() {
     assert!(nearest > 0.1);
 }
 
-/// Gives turns of this worker a reason to be refused, 3 or 7; done once more, it takes the reason away.
+/// Gives turns of this worker a reason to be refused, 3, 7 or 11; done once more, it takes the reason away.
 fn spoil(desk: &mut Desk, why: u8, worker: u64) {
     let record = &mut desk.list.records[worker as usize];
-    let spare = 8 * (record.key % desk.floor.buckets) as usize + 7;
+    let bucket = (record.key % desk.floor.buckets) as usize;
+    let spare = 8 * bucket + 7;
     match why {
         3 => record.slot ^= 4,
         7 => desk.board.set(spare, desk.board.words()[spare] ^ 1),
+        11 => desk.index.0[1 + bucket / 64] ^= 1 << (bucket % 64),
         _ => (),
     }
 }
@@ -320,7 +322,11 @@ fn runs_and_turns(seed: u64, manner: Manner, met: &mut BTreeSet<(u8, bool)>) {
     let mut desks = [(); 2].map(|()| any_opening(&mut Random::new(seed), manner).0);
     let w = desks[0].floor.workers;
     for _ in 0..30 {
-        let (worker, why, call) = (random.below(w), random.pick(&[0, 0, 3, 7]), random.any());
+        let (worker, why, call) = (
+            random.below(w),
+            random.pick(&[0, 0, 0, 3, 7, 11]),
+            random.any(),
+        );
         for desk in &mut desks {
             if desk.list.records[worker as usize].is_idle() {
                 start_any_call(&mut Random::new(call), desk, worker);
@@ -339,6 +345,7 @@ fn runs_and_turns(seed: u64, manner: Manner, met: &mut BTreeSet<(u8, bool)>) {
         met.insert((number, ran.counts.turns > 0));
         // §20.2: the numbers of the others too
         assert_eq!(desks[0].list, desks[1].list);
+        assert_eq!(desks[0].index, desks[1].index);
         for desk in &mut desks {
             spoil(desk, why, worker);
         }
@@ -353,8 +360,8 @@ fn a_run_keeps_the_report_of_its_last_turn() {
             runs_and_turns(seed, manner, &mut met);
         }
     }
-    // to the end of the list and stopped by 2, 3, 6 and 7; with turns done and without
-    assert_eq!(met.len(), 5 * 2);
+    // to the end of the list and stopped by 2, 3, 6, 7 and 11; with turns done and without
+    assert_eq!(met.len(), 6 * 2);
 }
 
 #[test]

@@ -1,6 +1,7 @@
 //! The trials (§10) with their numbers, on code that lives and on code made anew from the records.
 
 use reference::desk::{Desk, Floor, List, Manner};
+use reference::index::Index;
 use reference::record::{Record, INSERT, LOOK, REMOVE};
 use reference::report::{Action, Counts, Report};
 use reference::sheet::listing;
@@ -266,7 +267,7 @@ fn bare(words: usize, records: u64) -> Desk {
         length: records,
         records: vec![Record::idle(); records.min(64) as usize],
     };
-    Desk::brought(floor, &vec![0; words], list, Manner::Living)
+    Desk::brought(floor, &vec![0; words], list, Index::made(), Manner::Living)
 }
 
 #[test]

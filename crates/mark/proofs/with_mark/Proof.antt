@@ -2,7 +2,7 @@ use borrow.Author.Needs.{needs}
 use Prim.Native.Nat.{_+_, _*_}
 use native.Mathlib.Omega.{arith}
 use Rattle.mark.specs.Word.{setMark}
-use Rattle.mark.proofs.Byte.{byte-set}
+use Rattle.mark.proofs.Field.{field-set}
 use Rattle.mark.proofs.Choices.{choices}
 use Rattle.mark.proofs.Slots.{set-at}
 use Rattle.mark.proofs.with_mark.Statement.{statement}
@@ -13,7 +13,7 @@ returns c =
     let s = c .before .before in
     let a = s .args in
     rw (c .mark-shift .ensures, set-at (a .word) (a .slot) (c .before .if1 .left) (a .mark))
-    (byte-set (a .word) (32 + 8 * a .slot) (s .fits .word .fits) (omega arith) (a .mark) (s .fits .mark .fits))
+    (field-set (a .word) (32 + 8 * a .slot) 8 (s .fits .word .fits) (omega arith) (a .mark) (s .fits .mark .fits))
 
 pub with-mark-spec : {M : Type 1} → statement M
 unfolding setMark

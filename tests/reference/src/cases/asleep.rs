@@ -2,9 +2,9 @@
 //! every end of the number; and all that counts as no turn.
 
 use super::build::{mark_word, places, set_bucket};
-use super::refusals::{break_bucket, broken_record, spoil_size};
+use super::refusals::{break_bucket, broken_record, refute_index, spoil_size};
 use super::Bodies;
-use crate::case::{Case, COUNT, INSERT, LOOK, OPEN, ORDERS, REMOVE, RETIRE, RUN, SHOW, TURN};
+use crate::case::{Case, COUNT, INSERT, LOOK, NEXT, OPEN, ORDERS, REMOVE, RETIRE, RUN, SHOW, TURN};
 use crate::desk::{Desk, Manner};
 use crate::record::{Record, NONE};
 
@@ -218,7 +218,10 @@ fn longest_run(bodies: &mut Bodies) {
 
 /// §20.3: a start, a show, a count, all orders, a retiring, and an opening, which takes the numbers away with all else.
 fn no_turn(bodies: &mut Bodies) {
-    for call in [LOOK, INSERT, REMOVE, SHOW, COUNT, RETIRE, OPEN, ORDERS] {
+    for call in OPEN..=NEXT {
+        if matches!(call, TURN | RUN) {
+            continue;
+        }
         for number in ENDS {
             let other = asleep(bodies, number);
             let mut case = bodies.random.sound_sized(call, 3, 1);
@@ -236,7 +239,7 @@ fn no_turn(bodies: &mut Bodies) {
 /// Each call beside one asleep, with each reason to be refused; for some calls it is none. Whoever is refused has slept as well.
 fn refused(bodies: &mut Bodies) {
     for call in [LOOK, INSERT, REMOVE, TURN, RUN, SHOW, COUNT, ORDERS, RETIRE] {
-        for why in [1, 2, 3, 4, 5, 6, 7, 9, 10] {
+        for why in [1, 2, 3, 4, 5, 6, 7, 9, 10, 11] {
             let mut case = bodies.random.sound_sized(call, 3, 1);
             let (own, other) = (asleep(bodies, 6), asleep(bodies, 7));
             case.list.records = vec![other, own, other];
@@ -245,7 +248,7 @@ fn refused(bodies: &mut Bodies) {
             bodies.push(case);
         }
     }
-    for why in [2, 3, 6, 7] {
+    for why in [2, 3, 6, 7, 11] {
         stopped_later(bodies, why);
     }
 }
@@ -256,12 +259,15 @@ fn give_reason(bodies: &mut Bodies, case: &mut Case, why: u8) {
         2 => (case.worker, case.turns[0]) = (3, 3),
         3 => case.list.records[1].slot = 3,
         5 | 6 => case.list.records[1] = Record::idle(),
-        7 => {
+        7 | 11 => {
             case.list.records[1] = Record {
                 asleep: 6,
                 ..bodies.random.holding_record()
             };
-            break_bucket(case, 0);
+            match why {
+                7 => break_bucket(case, 0),
+                _ => refute_index(case, 0),
+            }
         }
         9 => case.turns.resize(65_536, 0),
         _ => (),
@@ -292,7 +298,8 @@ fn stopped_later(bodies: &mut Bodies, why: u8) {
         2 => case.turns[2] = 3,
         3 => case.list.records[1].slot = 3,
         6 => case.list.records[1] = Record::idle(),
-        _ => break_bucket(&mut case, 1),
+        7 => break_bucket(&mut case, 1),
+        _ => refute_index(&mut case, 1),
     }
     bodies.push(case);
 }
@@ -320,6 +327,7 @@ fn the_sleeper(bodies: &mut Bodies) {
             ticket: 0,
             board: desk.board.words(),
             list: desk.list.clone(),
+            index: desk.index.0.clone(),
             turns: vec![1; 5],
         });
     }

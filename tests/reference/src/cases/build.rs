@@ -2,6 +2,7 @@
 
 use crate::case::{self, Case};
 use crate::desk::{Floor, List, MOST_DEPTH, SMALL_BUCKETS};
+use crate::index::Index;
 use crate::memory::BUCKET_WORDS;
 use crate::random::Random;
 use crate::record::{Record, INSERT, LOOK, NONE, REMOVE};
@@ -173,9 +174,11 @@ impl Random {
             ticket: 0,
             board: self.board(n),
             list: List { length: w, records },
+            index: Vec::new(),
             turns: Vec::new(),
         };
         self.fit(&mut case);
+        count_index(&mut case);
         case
     }
 
@@ -198,6 +201,7 @@ impl Random {
                 case.turns = vec![worker as u8; 1];
             }
             case::ORDERS => case.worker = self.depth(),
+            case::NEXT => case.worker = self.below(case.floor.buckets + 2),
             _ => (),
         }
     }
@@ -231,10 +235,21 @@ pub fn mark_word(version: u32, map: [u8; 3]) -> u64 {
     word.snapshot()
 }
 
-/// The bucket of a lot gets these words.
+/// The bucket of a lot gets these words, and the index is true of the board again.
 pub fn set_bucket(case: &mut Case, lot: u64, bucket: [u64; BUCKET_WORDS]) {
     let start = BUCKET_WORDS * (lot % case.floor.buckets) as usize;
     case.board[start..start + BUCKET_WORDS].copy_from_slice(&bucket);
+    count_index(case);
+}
+
+/// A bucket's bit of the index becomes the other.
+pub fn flip_bit(index: &mut [u64], bucket: u64) {
+    index[1 + bucket as usize / 64] ^= 1 << (bucket % 64);
+}
+
+/// The index becomes the one that is true of the board.
+pub fn count_index(case: &mut Case) {
+    case.index = Index::counted(&case.board).0;
 }
 
 /// W is another, and the list as long as that, if a list can be.

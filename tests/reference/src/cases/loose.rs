@@ -1,13 +1,17 @@
 //! Random cases: histories on opened boards, sound states with one thing spoilt, and bytes of any sort.
 
-use super::build::EDGES;
+use super::build::{count_index, flip_bit, EDGES};
 use super::length::shorten;
 use super::Bodies;
-use crate::case::{Case, COUNT, INSERT, LOOK, OPEN, ORDERS, REMOVE, RETIRE, RUN, SHOW, TURN};
+use crate::case::{
+    Case, COUNT, INSERT, LOOK, NEXT, OPEN, ORDERS, REMOVE, RETIRE, RUN, SHOW, TOTAL, TURN,
+};
 use crate::desk::{Floor, List};
+use crate::index::INDEX_WORDS;
 use crate::outcome::outcome;
 use crate::random::Random;
 use crate::record::{Record, NONE};
+use crate::word::MAP_VALID;
 
 const HISTORIES: usize = 50;
 const STEPS: u64 = 40;
@@ -31,7 +35,12 @@ pub fn make(bodies: &mut Bodies) {
 /// An opening and calls after it, each on what the one before left; each call is a case of its own.
 fn history(bodies: &mut Bodies) {
     let mut case = opening(&mut bodies.random);
-    let lots = [0, 1, 2, 3].map(|lot| lot * case.lot + bodies.random.below(2));
+    let buckets: &[u64] = match case.lot {
+        0..=2 => &[0, 1],
+        // on either side of where a word of the index ends, and the last one
+        n => &[0, 63, 64, n - 1],
+    };
+    let lots = [0, 1, 2, 3].map(|lot| lot * case.lot + bodies.random.pick(buckets));
     let lots = &lots[..2 + bodies.random.below(3) as usize];
     let from = bodies.random.below(60);
     for step in 0..from + STEPS {
@@ -42,6 +51,7 @@ fn history(bodies: &mut Bodies) {
         case.floor = after.floor;
         case.board = after.board;
         case.list.records = after.records;
+        case.index = after.index;
         next_call(&mut bodies.random, &mut case, lots);
         shorten(&mut case);
     }
@@ -49,7 +59,10 @@ fn history(bodies: &mut Bodies) {
 
 fn opening(random: &mut Random) -> Case {
     let w = random.pick(&[1, 2, 2, 3, 3, 4]);
-    let n = random.pick(&[1, 1, 1, 2]);
+    let n = random.pick(&[1, 1, 1, 1, 1, 2, 2, 65, 256]);
+    // a large board is mostly zeros, so that its lines stay short
+    let version = if n > 2 { 0 } else { random.version() };
+    let any_words = [(); INDEX_WORDS].map(|()| random.value());
     Case {
         call: OPEN,
         floor: Floor {
@@ -59,12 +72,13 @@ fn opening(random: &mut Random) -> Case {
         },
         worker: w,
         lot: n,
-        ticket: random.version(),
+        ticket: version,
         board: vec![0; 8 * n as usize],
         list: List {
             length: w,
             records: vec![Record::idle(); w as usize],
         },
+        index: any_words.to_vec(),
         turns: Vec::new(),
     }
 }
@@ -80,8 +94,8 @@ fn next_call(random: &mut Random, case: &mut Case, lots: &[u64]) {
     let record = case.list.records[case.worker as usize];
     let idle = record.is_idle();
     case.call = match random.below(40) {
-        0 => SHOW,
-        1 => random.pick(&[COUNT, ORDERS]),
+        0 => random.pick(&[SHOW, TOTAL]),
+        1 => random.pick(&[COUNT, ORDERS, NEXT]),
         2 => random.pick(&[LOOK, INSERT, REMOVE, TURN, RETIRE]),
         8 | 9 if record.held != NONE => RETIRE,
         8 if !idle && random.once_in(4) => RETIRE,
@@ -98,6 +112,9 @@ fn next_call(random: &mut Random, case: &mut Case, lots: &[u64]) {
     if case.call == ORDERS {
         case.worker = random.depth();
     }
+    if case.call == NEXT {
+        case.worker = random.pick(&[0, 0, 1, 63, 64, case.floor.buckets]);
+    }
     if case.call == RUN {
         for _ in 0..1 + random.below(4) {
             let worker = random.below(w) as u8;
@@ -111,16 +128,23 @@ fn next_call(random: &mut Random, case: &mut Case, lots: &[u64]) {
 fn spoilt(random: &mut Random) -> Case {
     let call = random.pick(&[
         OPEN, LOOK, INSERT, REMOVE, TURN, TURN, TURN, TURN, TURN, RUN, RUN, SHOW, COUNT, ORDERS,
-        RETIRE, RETIRE,
+        RETIRE, RETIRE, TOTAL, NEXT,
     ]);
     let mut case = random.sound(call);
     let edge = random.pick(&EDGES);
-    match random.below(8) {
+    match random.below(9) {
         0 => spoil_sizes(random, &mut case),
         1 => case.worker = edge,
         2 => case.ticket = edge as u32,
         3 => case.floor.last_ticket = edge as u32,
-        4 | 5 => spoil_word(random, &mut case.board),
+        4 | 5 => {
+            spoil_word(random, &mut case.board);
+            // else the index tells of the mark that was there
+            if !random.once_in(4) {
+                count_index(&mut case);
+            }
+        }
+        6 => spoil_index(random, &mut case.index),
         _ => {
             let at = match random.once_in(4) {
                 true => random.below(case.list.records.len() as u64),
@@ -134,10 +158,11 @@ fn spoilt(random: &mut Random) -> Case {
 
 fn spoil_sizes(random: &mut Random, case: &mut Case) {
     let edge = random.pick(&EDGES);
-    match random.below(4) {
+    match random.below(5) {
         0 => case.floor.workers = edge,
         1 => case.floor.buckets = edge,
         2 => case.board.resize(random.below(26) as usize, 0),
+        3 => case.index.resize(random.below(9) as usize, 0),
         _ => super::build::set_list(case, edge),
     }
 }
@@ -151,6 +176,16 @@ fn spoil_word(random: &mut Random, board: &mut [u64]) {
         false => random.pick(&[0, 1, 2, 3, 255]),
     };
     board[at] = u64::from_le_bytes(bytes);
+}
+
+/// The total a little off or quite another, the bit of one of the first buckets or any bit, and so perhaps an unused one.
+fn spoil_index(random: &mut Random, index: &mut [u64]) {
+    match random.below(6) {
+        0 => index[0] = random.pick(&EDGES),
+        1 | 2 => index[0] = index[0].wrapping_add(random.pick(&[1, 2, u64::MAX])),
+        3 => flip_bit(index, random.below(256)),
+        _ => flip_bit(index, random.below(3)),
+    }
 }
 
 fn spoil_record(random: &mut Random, record: &mut Record) {
@@ -200,18 +235,9 @@ fn likely(random: &mut Random) -> Vec<u8> {
         _ => 0,
     };
     let mut body = vec![call, 1, 1, random.below(4) as u8, worker, 0, 0, 8];
+    let marks = [random.slot(), random.slot(), random.slot()];
     // the mark word in its long form, and the other words in short groups
-    body.extend([
-        0,
-        254,
-        random.slot(),
-        random.slot(),
-        random.slot(),
-        0,
-        0,
-        0,
-        0,
-    ]);
+    body.extend([0, 254, marks[0], marks[1], marks[2], 0, 0, 0, 0]);
     for _ in 0..6 {
         body.extend([0, random.below(3) as u8]);
     }
@@ -224,6 +250,12 @@ fn likely(random: &mut Random) -> Vec<u8> {
     for bound in [4, 3, 3] {
         body.push(random.below(bound) as u8);
     }
+    let valid = marks.iter().filter(|&&mark| mark == MAP_VALID).count() as u8;
+    let (total, bits) = match random.once_in(4) {
+        true => (random.below(4) as u8, random.below(3) as u8),
+        false => (valid, valid.min(1)),
+    };
+    body.extend([5, 0, total, 0, bits, 2, 0]);
     body.extend([0, 0, 1 + random.below(20) as u8]);
     body
 }

@@ -1,6 +1,6 @@
 //! Directed cases: all orders, refused for every reason, and of classes to which short histories lead.
 
-use super::build::mark_word;
+use super::build::{count_index, mark_word};
 use super::refusals::{broken_record, spoil_size};
 use super::Bodies;
 use crate::case::{Case, ORDERS};
@@ -150,6 +150,7 @@ fn class(bodies: &mut Bodies, w: u64, events: &[Event]) -> Case {
         ticket: 0,
         board: desk.board.words(),
         list: desk.list,
+        index: desk.index.0,
         turns: Vec::new(),
     }
 }
@@ -196,6 +197,7 @@ fn alone(bodies: &mut Bodies) {
     let mut case = class(bodies, 1, &[(0, INSERT, 7, 9)]);
     case.board[0] = mark_word(u32::MAX, [2, 0, 0]);
     case.list.records[0].word = case.board[0];
+    count_index(&mut case);
     push(bodies, case);
 }
 
@@ -298,6 +300,7 @@ fn nothing_to_close(bodies: &mut Bodies) {
     let mut case = class(bodies, 2, &[(0, REMOVE, 7, 0), (1, LOOK, 7, 0)]);
     case.board[0] |= mark_word(0, [1, 0, 0]);
     case.board[1] = 7;
+    count_index(&mut case);
     push(bodies, case);
 }
 

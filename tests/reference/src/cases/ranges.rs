@@ -1,15 +1,15 @@
 //! Directed cases: both ends of every range, long runs, runs as a whole, and the trials.
 
-use super::build::{mark_word, set_bucket};
+use super::build::{count_index, mark_word, set_bucket};
 use super::Bodies;
-use crate::case::{self, Case, COUNT, INSERT, LOOK, OPEN, REMOVE, RETIRE, RUN, SHOW, TURN};
+use crate::case::{self, Case, COUNT, INSERT, LOOK, NEXT, OPEN, REMOVE, RETIRE, RUN, SHOW, TURN};
 use crate::memory::BUCKET_WORDS;
 use crate::outcome::outcome;
 use crate::record::Record;
 
 pub fn make(bodies: &mut Bodies) {
     // for all orders only the first of these sizes is a small class
-    for call in OPEN..=RETIRE {
+    for call in OPEN..=NEXT {
         for (w, n) in [(1, 1), (64, 1), (1, 256), (64, 256)] {
             let case = bodies.random.sound_sized(call, w, n);
             bodies.push(case);
@@ -137,7 +137,7 @@ fn round_and_round(bodies: &mut Bodies) -> Case {
         ..bodies.random.record(INSERT, 1)
     };
     case.list.records = vec![record];
-    case.board = vec![mark_word(5, [1, 2, 1]), 3, 4, 5, 6, 7, 8, 0];
+    set_bucket(&mut case, 9, [mark_word(5, [1, 2, 1]), 3, 4, 5, 6, 7, 8, 0]);
     case
 }
 
@@ -168,9 +168,11 @@ fn counts(bodies: &mut Bodies) {
             for bucket in case.board.chunks_mut(BUCKET_WORDS) {
                 bucket[0] = mark_word(0, [mark; 3]);
             }
+            count_index(&mut case);
             bodies.push(case.clone());
             case.board.fill(0);
             case.board[BUCKET_WORDS * (n as usize - 1)] = mark_word(7, [0, 0, mark]);
+            count_index(&mut case);
             bodies.push(case);
         }
     }
@@ -201,6 +203,7 @@ fn count_over(maps: &[[u8; 3]]) -> Case {
         .iter()
         .map(|&map| [mark_word(0, map), 7, 7, 7, 7, 7, 7, 0]);
     case.board = buckets.flatten().collect();
+    count_index(&mut case);
     case
 }
 
@@ -228,7 +231,7 @@ fn runs(bodies: &mut Bodies) {
 fn everything_at_once(bodies: &mut Bodies) {
     let word = mark_word(4, [1, 1, 0]);
     let mut case = bodies.random.sound_sized(RUN, 2, 1);
-    case.board = vec![word, 3, 4, 0, 6, 7, 0, 0];
+    set_bucket(&mut case, 0, [word, 3, 4, 0, 6, 7, 0, 0]);
     let insert = Record {
         kind: INSERT,
         place: 6,
@@ -252,7 +255,7 @@ fn everything_at_once(bodies: &mut Bodies) {
 fn trials(bodies: &mut Bodies) {
     let mut case = bodies.random.sound_sized(RUN, 2, 1);
     case.floor.last_ticket = 1;
-    case.board.fill(0);
+    set_bucket(&mut case, 7, [0; BUCKET_WORDS]);
     let insert = Record {
         kind: INSERT,
         place: 1,
@@ -283,11 +286,12 @@ fn trials(bodies: &mut Bodies) {
     show_and_count(bodies, &case);
 }
 
-/// The board and the records become what the case leaves.
+/// Board, records and index become what the case leaves.
 fn leave(case: &mut Case) {
     let after = outcome(case);
     case.board = after.board;
     case.list.records = after.records;
+    case.index = after.index;
 }
 
 /// A show of the trial's lot and a count, on what the case stands on.

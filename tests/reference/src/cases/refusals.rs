@@ -1,14 +1,14 @@
 //! Directed cases: every number of refusal, what comes before what, and every cause of 1.
 
-use super::build::{set_buckets, set_list, set_workers};
+use super::build::{flip_bit, set_buckets, set_list, set_workers};
 use super::Bodies;
-use crate::case::{self, Case, COUNT, INSERT, LOOK, OPEN, REMOVE, RETIRE, RUN, SHOW, TURN};
+use crate::case::{self, Case, COUNT, INSERT, LOOK, NEXT, OPEN, REMOVE, RUN, SHOW, TURN};
 use crate::memory::BUCKET_WORDS;
 use crate::random::Random;
 use crate::record::Record;
 
 pub fn make(bodies: &mut Bodies) {
-    for call in OPEN..=RETIRE {
+    for call in OPEN..=NEXT {
         accepted(bodies, call);
         causes_of_1(bodies, call);
         large_boards(bodies, call);
@@ -101,6 +101,11 @@ pub fn break_bucket(case: &mut Case, lot: u64) {
     case.board[start + 7] = 1;
 }
 
+/// The index tells that the bucket of this lot is occupied where it is not, or that it is not where it is.
+pub fn refute_index(case: &mut Case, lot: u64) {
+    flip_bit(&mut case.index, lot % case.floor.buckets);
+}
+
 fn starts(bodies: &mut Bodies, call: u8) {
     for spent in [false, true] {
         for spoilt in [false, true] {
@@ -129,7 +134,7 @@ fn starts(bodies: &mut Bodies, call: u8) {
 fn turns(bodies: &mut Bodies) {
     for broken in [false, true] {
         for spoilt in [false, true] {
-            for why in [2, 3, 6, 7] {
+            for why in [2, 3, 6, 7, 11] {
                 let mut case = bodies.random.sound(TURN);
                 stand(bodies, &mut case, why, broken);
                 if spoilt {
@@ -151,9 +156,12 @@ fn stand(bodies: &mut Bodies, case: &mut Case, why: u8, broken: bool) {
         6 => case.list.records[at] = Record::idle(),
         _ => (),
     }
+    let lot = case.list.records[at].key;
     if broken || why == 7 {
-        let lot = case.list.records[at].key;
         break_bucket(case, lot);
+    }
+    if why == 11 {
+        refute_index(case, lot);
     }
     case.turns = vec![case.worker as u8; 2];
 }
@@ -162,7 +170,7 @@ fn runs(bodies: &mut Bodies) {
     for long in [false, true] {
         for spoilt in [false, true] {
             for broken in [false, true] {
-                for why in [0, 2, 3, 6, 7] {
+                for why in [0, 2, 3, 6, 7, 11] {
                     let mut case = bodies.random.sound(RUN);
                     stand(bodies, &mut case, why, broken);
                     let count = if long { 65_536 } else { 2 };
@@ -181,7 +189,7 @@ fn runs(bodies: &mut Bodies) {
 /// Worker 63 of 64, refused for its record or its bucket.
 fn last_worker(bodies: &mut Bodies) {
     for call in [LOOK, INSERT, REMOVE, TURN, RUN] {
-        for why in [3, 4, 6, 7] {
+        for why in [3, 4, 6, 7, 11] {
             let mut case = bodies.random.sound_sized(call, 64, 1);
             case.worker = 63;
             case.list.records[63] = bodies.random.any_record();
@@ -193,7 +201,7 @@ fn last_worker(bodies: &mut Bodies) {
 
 /// Runs of two workers, of which one is refused after some turns of the other.
 fn stopped_later(bodies: &mut Bodies) {
-    for why in [2, 3, 6, 7, 7] {
+    for why in [2, 3, 6, 7, 7, 11] {
         for before in 1..4 {
             let mut case = bodies.random.sound_sized(RUN, 2, 2);
             case.worker = 0;

@@ -4,6 +4,7 @@
 //! takes the version round has the highest in both.
 
 use super::build::{mark_word, set_bucket};
+use super::refusals::refute_index;
 use super::Bodies;
 use crate::case::{Case, INSERT, LOOK, REMOVE, RUN, TURN};
 use crate::memory::BUCKET_WORDS;
@@ -24,7 +25,7 @@ pub fn make(bodies: &mut Bodies) {
     ends_of_words(bodies);
     runs_of_two(bodies);
     stopped_later(bodies);
-    for why in [0, 1, 2, 3, 6, 7, 9] {
+    for why in [0, 1, 2, 3, 6, 7, 9, 11] {
         refused_at_once(bodies, why);
     }
 }
@@ -212,6 +213,7 @@ fn with_refused(bodies: &mut Bodies, call: u8, turn: Turn, why: u8) -> (Case, u8
     match why {
         1 => case.board.push(0),
         6 => case.list.records[1] = Record::idle(),
+        11 => refute_index(&mut case, lot_of(3, 2)),
         _ => (),
     }
     let number = match why {
@@ -223,7 +225,7 @@ fn with_refused(bodies: &mut Bodies, call: u8, turn: Turn, why: u8) -> (Case, u8
 
 /// Runs in which turns are done before the refused one, and could be after it.
 fn stopped_later(bodies: &mut Bodies) {
-    for why in [2, 3, 6, 7] {
+    for why in [2, 3, 6, 7, 11] {
         for turn in every_outcome(&mut bodies.random, lot_of(3, 1)) {
             if matches!(turn.0.place, 6 | 7 | 12 | 13) {
                 let (case, refused) = with_refused(bodies, RUN, turn, why);

@@ -1,7 +1,7 @@
 //! Directed cases: a worker is retired, from every place, whatever it holds and whatever stands there; and what follows on an opened board.
 
 use super::build::{helds, mark_word, places, set_bucket};
-use super::refusals::{break_bucket, spoil_size};
+use super::refusals::{break_bucket, refute_index, spoil_size};
 use super::Bodies;
 use crate::case::{Case, COUNT, INSERT, LOOK, REMOVE, RETIRE, SHOW, TURN};
 use crate::desk::{Desk, Manner};
@@ -79,13 +79,15 @@ fn give_reason(case: &mut Case, why: u8) {
 
 /// Worker 63 of 64: done, and refused for its record or its bucket.
 fn last_worker(bodies: &mut Bodies) {
-    for why in [0, 3, 6, 7] {
+    for why in [0, 3, 6, 7, 11] {
         let mut case = bodies.random.sound_sized(RETIRE, 64, 1);
         case.worker = 63;
         case.list.records[63] = bodies.random.holding_record();
         give_reason(&mut case, why);
-        if why == 7 {
-            break_bucket(&mut case, 0);
+        match why {
+            7 => break_bucket(&mut case, 0),
+            11 => refute_index(&mut case, 0),
+            _ => (),
         }
         bodies.push(case);
     }
@@ -307,6 +309,7 @@ fn trials(bodies: &mut Bodies) {
             let after = outcome(&case);
             case.board = after.board;
             case.list.records = after.records;
+            case.index = after.index;
             for (call, worker) in [(SHOW, 0), (COUNT, 0), (TURN, 0), (RETIRE, 0), (TURN, 1)] {
                 bodies.push(Case {
                     call,
@@ -336,6 +339,7 @@ fn stopped(version: u32, turns: usize) -> Case {
         ticket: 0,
         board: desk.board.words(),
         list: desk.list,
+        index: desk.index.0,
         turns: Vec::new(),
     }
 }

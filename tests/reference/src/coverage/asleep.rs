@@ -244,7 +244,7 @@ fn see_no_turn(case: &Case, outcome: &Outcome, met: &mut Vec<String>) {
     let relation = if case.call == OPEN { "over" } else { "beside" };
     for sleeper in sleepers(case, &own) {
         let when = match (&outcome.answer, number) {
-            (Answer::Run(..), 2 | 3 | 6 | 7) => " at once",
+            (Answer::Run(..), 2 | 3 | 6 | 7 | 11) => " at once",
             _ => "",
         };
         if number == 0 {

@@ -184,7 +184,7 @@ pub fn causes_in_bucket(words: &[u64]) -> Vec<String> {
     causes
 }
 
-fn broken_buckets(case: &Case) -> Vec<u64> {
+pub fn broken_buckets(case: &Case) -> Vec<u64> {
     let board = Board::of(&case.board);
     (0..(case.board.len() / BUCKET_WORDS) as u64)
         .filter(|&number| board.bucket(number as usize).is_broken())
@@ -198,7 +198,7 @@ fn see_what_does_not_matter(case: &Case, met: &mut Vec<String>) {
     let any_bucket = !broken_buckets(case).is_empty();
     match case.call {
         case::OPEN => see_opening(case, any_bucket, met),
-        case::SHOW | case::COUNT if any_record => {
+        case::SHOW | case::COUNT | case::TOTAL | case::NEXT if any_record => {
             met.push(format!("{name}: 0 with a broken record"))
         }
         _ => (),

@@ -1,40 +1,46 @@
 //! The points, by name. `{a,b}` stands for one point with a and one with b.
 
+mod index;
+
 const POINTS: &[&str] = &[
     // every number of every call
     "open gives {0,1}",
     "{look,remove} gives {0,1,2,3,4}",
     "insert gives {0,1,2,3,4,5}",
-    "turn gives {0,1,2,3,6,7}",
+    "turn gives {0,1,2,3,6,7,11}",
     "run gives {0,1,9}",
-    "run is stopped by {2,3,6,7} {at once,later}",
+    "run is stopped by {2,3,6,7,11} {at once,later}",
     "{show,count} gives {0,1,7}",
     "orders gives {0,1,3,7,10}",
-    "retire gives {0,1,2,3,6,7}",
-    // the order of the numbers, where two apply. A worker that is not there has no record, so 2 never meets 3, 4, 6 or 7; an idle record is
-    // not broken, so 3 never meets 6; a start and a turn never meet in one call, so 4 and 5 never meet 6 and 7. An idle worker holds
-    // nothing, so where one is retired 6 never meets 7.
+    "retire gives {0,1,2,3,6,7,11}",
+    "{total,next} gives {0,1}",
+    // the order of the numbers, where two apply. A worker that is not there has no record, so 2 never meets 3, 4, 6 or 7, and meets 11 only
+    // where the total is too high for any bucket; an idle record is not broken, so 3 never meets 6; a start and a turn never meet in one
+    // call, so 4 and 5 never meet 6, 7 and 11. An idle worker holds nothing, so where one is retired 6 never meets 7 or 11.
     "{look,insert,remove}: 1 before {2,3,4}",
     "{look,insert,remove}: 3 before 4",
     "insert: {1,2,3,4} before 5",
     "turn: 1 before {2,3,6,7}",
     "turn: {3,6} before 7",
+    "turn: {1,2,3,6,7} before 11",
     "run: 1 before {2,3,6,7,9}",
     "run: 9 before {2,3,6,7}",
     "run: {3,6} before 7",
+    "run: {1,2,3,6,7,9} before 11",
     "{show,count}: 1 before 7",
     "orders: 1 before {3,7,10}",
     "orders: 10 before {3,7}",
     "orders: 3 before 7",
     "retire: 1 before {2,3,6,7}",
     "retire: 3 before 7",
+    "retire: {1,2,3,7} before 11",
     // the causes of 1, each alone
-    "{open,look,insert,remove,turn,run,show,count,orders,retire}: 1 by {W 0,W 65,W 2^32+1,W 2^64-1}",
-    "{open,look,insert,remove,turn,run,show,count,orders,retire}: 1 by {N 0,N 257,N 2^32+1,N 2^64-1,an N whose 8N wraps}",
-    "{open,look,insert,remove,turn,run,show,count,orders,retire}: 1 by a board {empty,one word short,one word long,of 2040 words for N 256}",
+    "{open,look,insert,remove,turn,run,show,count,orders,retire,total,next}: 1 by {W 0,W 65,W 2^32+1,W 2^64-1}",
+    "{open,look,insert,remove,turn,run,show,count,orders,retire,total,next}: 1 by {N 0,N 257,N 2^32+1,N 2^64-1,an N whose 8N wraps}",
+    "{open,look,insert,remove,turn,run,show,count,orders,retire,total,next}: 1 by a board {empty,one word short,one word long,of 2040 words for N 256}",
     "{open,look,insert,remove,turn,run,orders,retire}: 1 by a list {empty,one short,one long,of W+256}",
-    "{show,count}: 0 with a list {empty,one short,one long,of W+256}",
-    "{show,count}: 0 with a broken record",
+    "{show,count,total,next}: 0 with a list {empty,one short,one long,of W+256}",
+    "{show,count,total,next}: 0 with a broken record",
     "open: 0 {over a broken bucket,with a last ticket,with a floor outside its ranges}",
     "open: 0 over a {broken,busy} record of worker {0,63}",
     // the causes of a broken record, each alone
@@ -102,11 +108,11 @@ const POINTS: &[&str] = &[
     "at 13 ends with {0,more,2^64-1}",
     "at 9 version 4294967295 to 0 held {0,1,2}, other marks {00,01,02,10,11,12,20,21,22}",
     // both ends of every range
-    "{open,look,insert,remove,turn,run,show,count,retire}: 0 with {W 1,W 64,N 1,N 256}",
+    "{open,look,insert,remove,turn,run,show,count,retire,total,next}: 0 with {W 1,W 64,N 1,N 256}",
     "{look,insert,remove,turn,retire}: 0 with worker {0,W-1,63}",
     "{look,insert,remove,turn,retire}: 2 with worker {W,64 of 64,256,4294967296,2^64-1}",
     "{look,insert,remove}: {3,4} for worker 63",
-    "{turn,run,retire}: {3,6,7} for worker 63",
+    "{turn,run,retire}: {3,6,7,11} for worker 63",
     "run: worker {0,W-1,63} goes on",
     "run: worker {W,64 of 64,255} stops it",
     "{look,insert,remove,turn,show,retire}: 0 with lot {0,2^64-1}",
@@ -162,16 +168,16 @@ const POINTS: &[&str] = &[
     "report at 9: version 4294967295 before and 0 after, bucket {0,between,255}",
     "report: word {0,the highest} {stays,changes}",
     "report: another word changes to {0,the highest}",
-    "turn: {1,2,3,6,7} with a word to tell",
+    "turn: {1,2,3,6,7,11} with a word to tell",
     // what a run keeps of its last turn, and without one
     "last report of a run to its end: read, {goes on,ends with 0,ends with more,full round}",
     "last report of a run to its end: store, {goes on,ends with 0}",
     "last report of a run to its end: won, {goes on,ends with 0,ends with more}",
     "last report of a run to its end: lost, goes on",
-    "last report of a run stopped by {2,3,6,7}: {read,store,won,lost}, goes on",
-    "last report of a run stopped by {2,3,6,7}: won, ends with more",
-    "last report of a run {to its end,stopped by 2,stopped by 3,stopped by 6,stopped by 7}: the word {stays,changes}",
-    "last report of a run stopped by {3,6,7}: another bucket than the refused turn's",
+    "last report of a run stopped by {2,3,6,7,11}: {read,store,won,lost}, goes on",
+    "last report of a run stopped by {2,3,6,7,11}: won, ends with more",
+    "last report of a run {to its end,stopped by 2,stopped by 3,stopped by 6,stopped by 7,stopped by 11}: the word {stays,changes}",
+    "last report of a run stopped by {3,6,7,11}: another bucket than the refused turn's",
     "last report: bucket {0,between,255}",
     "last report: of the only turn",
     "last report: {another bucket than,the bucket of} the turn before",
@@ -180,7 +186,7 @@ const POINTS: &[&str] = &[
     "last report: {goes on after a call that ended,ends with 0 after one that ended with more,no full round after one}",
     "last report: a read after a {lost swap,store,won swap}",
     "last report: the word stays after one that changed",
-    "last report: none, {the run is empty,by 1,by 2,by 3,by 6,by 7,by 9}",
+    "last report: none, {the run is empty,by 1,by 2,by 3,by 6,by 7,by 9,by 11}",
     // all orders: what alone makes a class no small one, and that another number comes before or after whichever it is
     "orders: 10 by {N 2,N 256,W 4,W 64,depth 0,depth 25,depth 257,depth 2^32+1,depth 2^64-1} alone",
     "orders: 10 by W and N and depth",
@@ -307,19 +313,19 @@ const POINTS: &[&str] = &[
     "run: one comes to 4294967295 and has a turn then",
     "run: one sleeps 65535 turns on",
     // what is no turn, and leaves the numbers of others
-    "{look,insert,remove,show,count,orders,retire}: 0 beside one asleep for {0,1,4294967294,4294967295}",
+    "{look,insert,remove,show,count,orders,retire,total,next}: 0 beside one asleep for {0,1,4294967294,4294967295}",
     "open: 0 over one asleep for {0,1,4294967294,4294967295}",
     "retire: 0 for one asleep for {0,1,4294967294,4294967295}",
     "{look,insert,remove}: {1,2,3,4} beside one asleep",
     "insert: 5 beside one asleep",
-    "turn: {1,2,3,6,7} beside one asleep",
+    "turn: {1,2,3,6,7,11} beside one asleep",
     "run: {1,9} beside one asleep",
-    "run: {2,3,6,7} {at once,later} beside one asleep",
+    "run: {2,3,6,7,11} {at once,later} beside one asleep",
     "{show,count}: {1,7} beside one asleep",
     "orders: {1,3,7,10} beside one asleep",
-    "retire: {1,2,3,6,7} beside one asleep",
+    "retire: {1,2,3,6,7,11} beside one asleep",
     "{look,insert,remove}: {3,4} for one asleep",
-    "{turn,run,retire}: {3,7} for one asleep",
+    "{turn,run,retire}: {3,7,11} for one asleep",
     // the trials that are not proved together
     "trial: the sleeper's turn 30 after 15 of others",
     "trial: an insert's first 8 turns leave 8589934592",
@@ -331,7 +337,8 @@ const POINTS: &[&str] = &[
 
 /// Every point by its name.
 pub fn points() -> Vec<String> {
-    POINTS.iter().flat_map(|pattern| expand(pattern)).collect()
+    let patterns = POINTS.iter().chain(index::POINTS);
+    patterns.flat_map(|pattern| expand(pattern)).collect()
 }
 
 /// All that a pattern stands for.

@@ -22,7 +22,7 @@ pub fn see(case: &Case, outcome: &Outcome, met: &mut Vec<String>) {
         0 => see_accepted(case, outcome, met),
         2 => see_worker(case, met),
         5 => see_spent_ticket(case, met),
-        3 | 4 | 6 | 7 => see_last_worker(case, outcome, met),
+        3 | 4 | 6 | 7 | 11 => see_last_worker(case, outcome, met),
         9 => met.push(format!("run: 9 of {} turns", case.turns.len())),
         _ => (),
     }
@@ -49,7 +49,7 @@ fn see_accepted(case: &Case, outcome: &Outcome, met: &mut Vec<String>) {
         case::LOOK | case::REMOVE => {
             met.push(format!("{name}: 0 after {}", case.floor.last_ticket))
         }
-        case::SHOW | case::COUNT => see_list(case, name, met),
+        case::SHOW | case::COUNT | case::TOTAL | case::NEXT => see_list(case, name, met),
         _ => (),
     }
     see_lot(case, n, met);
@@ -204,7 +204,7 @@ fn see_run(case: &Case, outcome: &Outcome, number: u8, counts: &Counts, met: &mu
         met.push("run: two calls end".into());
     }
     see_workers(case, outcome, met);
-    if !matches!(number, 2 | 3 | 6 | 7) {
+    if !matches!(number, 2 | 3 | 6 | 7 | 11) {
         return;
     }
     let stopper = case.turns[done];

@@ -1,8 +1,10 @@
 //! Which numbers came, in which order, and what alone caused a 1.
 
+use super::index::is_refuted;
 use super::orders::causes_of_10;
 use crate::case::{self, Case, NAMES};
 use crate::desk::{MOST_BUCKETS, MOST_TURNS, MOST_WORKERS};
+use crate::index::INDEX_WORDS;
 use crate::memory::{Board, BUCKET_WORDS};
 use crate::outcome::{Answer, Outcome};
 use crate::record::{Record, NONE};
@@ -11,7 +13,7 @@ pub fn see(case: &Case, outcome: &Outcome, met: &mut Vec<String>) {
     let name = NAMES[case.call as usize];
     let number = outcome.answer.number();
     match &outcome.answer {
-        Answer::Run(2 | 3 | 6 | 7, ran) => {
+        Answer::Run(2 | 3 | 6 | 7 | 11, ran) => {
             let when = if ran.counts.turns == 0 {
                 "at once"
             } else {
@@ -29,10 +31,41 @@ pub fn see(case: &Case, outcome: &Outcome, met: &mut Vec<String>) {
         }
     }
     if number == 1 {
-        if let [cause] = &causes_of_1(case)[..] {
-            met.push(format!("{name}: 1 by {cause}"));
+        see_cause_of_1(case, met);
+    }
+}
+
+fn see_cause_of_1(case: &Case, met: &mut Vec<String>) {
+    let name = NAMES[case.call as usize];
+    let [cause] = &causes_of_1(case)[..] else {
+        return;
+    };
+    met.push(format!("{name}: 1 by {cause}"));
+    if cause.contains("index") {
+        for other in applying(case) {
+            met.push(format!("{name}: 1 by an index alone before {other}"));
+        }
+        if case.call == case::RETIRE && record_of(case).is_some_and(holds_nothing) {
+            met.push("retire: 1 by an index with nothing held".into());
+        }
+        if case.call == case::RUN && case.turns.is_empty() {
+            met.push("run: 1 by an index with no turns".into());
         }
     }
+}
+
+fn holds_nothing(record: &Record) -> bool {
+    !record.is_idle() && !record.is_broken() && record.held == NONE
+}
+
+/// §1.1: what a call is given beside the board.
+pub fn takes_list(call: u8) -> bool {
+    !matches!(call, case::SHOW | case::COUNT | case::TOTAL | case::NEXT)
+}
+
+pub fn takes_index(call: u8) -> bool {
+    use case::{NEXT, OPEN, RETIRE, RUN, TOTAL, TURN};
+    matches!(call, OPEN | TURN | RUN | RETIRE | TOTAL | NEXT)
 }
 
 /// W and N that the call must measure: an opening's are those asked for.
@@ -105,6 +138,7 @@ pub fn applying(case: &Case) -> Vec<u8> {
         (7, broken_bucket),
         (9, case.call == case::RUN && case.turns.len() > MOST_TURNS),
         (10, !causes_of_10(case).is_empty()),
+        (11, is_refuted(case)),
     ];
     let numbers = applies.iter().filter(|(_, does)| *does);
     numbers.map(|(number, _)| *number).collect()
@@ -141,11 +175,24 @@ fn causes_of_1(case: &Case) -> Vec<&'static str> {
             _ => "another board",
         });
     }
-    let takes_list = !matches!(case.call, case::SHOW | case::COUNT);
-    if takes_list && w <= case::MOST_RECORDS && case.list.length != w {
+    if takes_list(case.call) && w <= case::MOST_RECORDS && case.list.length != w {
         causes.push(length_of_list(case.list.length, w));
     }
+    if takes_index(case.call) && case.index.len() != INDEX_WORDS {
+        causes.push(length_of_index(case.index.len()));
+    }
     causes
+}
+
+/// What is wrong with an index of so many words.
+pub fn length_of_index(length: usize) -> &'static str {
+    match length {
+        0 => "an index empty",
+        4 => "an index of 4 words",
+        6 => "an index of 6 words",
+        13 => "an index of 13 words",
+        _ => "another index",
+    }
 }
 
 /// What is wrong with a list of so many records.

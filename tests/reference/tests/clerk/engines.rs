@@ -1,6 +1,6 @@
 //! Desks that the checks can be tried on: the reference itself, and turns by the customers' table of places and retirings by their words,
 //! over the reference's own types, as they are laid down or with one mistake of a trainee in it. Starts and refusals are the reference's in
-//! all of them.
+//! all of them. The table keeps no index, and nothing that is given to the reference then comes so far that it would ask for one.
 
 use reference::desk::{Desk, Manner, Refusal};
 use reference::memory::Bucket;

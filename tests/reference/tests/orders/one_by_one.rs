@@ -2,6 +2,7 @@
 //! with how long each worker is asleep (§20.1).
 
 use reference::desk::{Desk, List, Manner};
+use reference::index::Index;
 use reference::record::Record;
 use reference::report::Action;
 use std::collections::BTreeSet;
@@ -40,13 +41,13 @@ fn walk(desk: &Desk, words: &[u64], records: &[Record], left: u64, lost: u64, su
     }
 }
 
-/// A desk of the same floor with these words and records.
+/// A desk of the same floor with these words and records, and an index of its own.
 fn again(desk: &Desk, words: &[u64], records: &[Record], manner: Manner) -> Desk {
     let list = List {
         length: desk.list.length,
         records: records.to_vec(),
     };
-    Desk::brought(desk.floor, words, list, manner)
+    Desk::brought(desk.floor, words, list, Index::counted(words), manner)
 }
 
 /// By §18.1 to the letter: every list of so many numbers is run from the outset, on code that lives, and is an order as far as it is not

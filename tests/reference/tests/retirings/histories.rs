@@ -4,6 +4,7 @@
 use crate::watch::{Turned, Watch, Wrong};
 use reference::case::fields;
 use reference::desk::{Desk, Floor, List, Manner};
+use reference::index::Index;
 use reference::record::{Record, INSERT, NONE};
 use reference::word::*;
 use std::collections::hash_map::DefaultHasher;
@@ -137,6 +138,7 @@ impl State {
         }
     }
 
+    /// The index is counted anew, since a wrong rule for a retiring can leave other marks than it tells of.
     fn desk(&self) -> Desk {
         let floor = Floor {
             workers: self.records.len() as u64,
@@ -147,7 +149,8 @@ impl State {
             length: floor.workers,
             records: self.records.clone(),
         };
-        Desk::brought(floor, &self.words, list, Manner::Remade)
+        let index = Index::counted(&self.words);
+        Desk::brought(floor, &self.words, list, index, Manner::Remade)
     }
 
     /// All that can be done here.

@@ -41,8 +41,8 @@ loop-again c =
     let l = e .before .before .before .before in (
       broken-next _ (l .loop .b) (l .loop .inv .0) (sym (found (e .before)) ∙ e .if1 .left),
       (
-        rw (c .in-word .ensures .0, l .loop .inv .1 .0) (lots-next _ (l .loop .b)),
-        (omega (arith, c .in-word .ensures .1), omega arith),
+        rw (c .valid-slots .ensures .0, l .loop .inv .1 .0) (lots-next _ (l .loop .b)),
+        (omega (arith, c .valid-slots .ensures .1), omega arith),
       ),
     )
 
@@ -61,5 +61,5 @@ count-spec =
     (λ c κs. search needs)
     returns
     (λ c. omega arith) (λ c. omega arith) (λ c κs. search needs)
-    (λ c. omega (arith, c .in-word .ensures .1)) (λ c. omega arith) (λ c. omega arith)
+    (λ c. omega (arith, c .valid-slots .ensures .1)) (λ c. omega arith) (λ c. omega arith)
     loop-again returns-2)

@@ -1,0 +1,344 @@
+#include "met.h"
+#include <stdio.h>
+#include <string.h>
+
+const char *const call_names[CALLS] = {"open", "start look", "start insert", "start remove", "turn", "run", "show", "count",
+    "orders", "retire", "total", "next"};
+
+enum { REFUSALS = DESK_UNTRUE_INDEX + 1, NO_MORE = REFUSALS };
+
+/* the numbers that each call gives, 0 for a call that is accepted */
+static const unsigned call_refusals[CALLS][REFUSALS + 1] = {
+    [OPEN] = {0, 1, NO_MORE},
+    [START_LOOK] = {0, 1, 2, 3, 4, NO_MORE},
+    [START_INSERT] = {0, 1, 2, 3, 4, 5, NO_MORE},
+    [START_REMOVE] = {0, 1, 2, 3, 4, NO_MORE},
+    [TURN] = {0, 1, 2, 3, 6, 7, 11, NO_MORE},
+    [RUN] = {0, 1, 2, 3, 6, 7, 9, 11, NO_MORE},
+    [SHOW] = {0, 1, 7, NO_MORE},
+    [COUNT] = {0, 1, 7, NO_MORE},
+    [ORDERS] = {0, 1, 3, 7, 10, NO_MORE},
+    [RETIRE] = {0, 1, 2, 3, 6, 7, 11, NO_MORE},
+    [TOTAL] = {0, 1, NO_MORE},
+    [NEXT] = {0, 1, NO_MORE},
+};
+
+static unsigned long met[CALLS][REFUSALS], places[LAST_PLACE + 1], changes, lost, full;
+
+/* reports, of a turn or the last of a run: those of a bucket past the first, and those whose two words differ; and runs that were stopped,
+   but not at once */
+static unsigned long elsewhere[CALLS], changed[CALLS], stopped_later;
+
+/* all orders that were walked, by how many workers were busy; their walks, and the swaps that these lost; and those of which one walk lost
+   more than one swap */
+static unsigned long classes[MOST_IN_CLASS + 1], finished, cut, lost_in_walks, lost_more;
+
+/* retirings, by the place of the call that was dropped, of those that hold no slot and of those that do; of these last by the mark that
+   stood there, and those whose version came round; and of the others those whose bucket was broken, which nobody asks about */
+static unsigned long retired[LAST_PLACE + 1], freed[LAST_PLACE + 1], freed_mark[DESK_MARK_INSERTING + 1], freed_round, over_broken;
+
+/* records beside a turn that was done: those that counted it, those that were at the highest number, idle ones and broken ones; and turns
+   whose worker had slept */
+static unsigned long slept, slept_most, idle_beside, broken_beside, woke;
+
+/* calls that take the index, refused for nothing but its length: where it is shorter, and where it is longer */
+static unsigned long too_short[CALLS], too_long[CALLS];
+
+/* what an index has wrong about a bucket (§21.5): its bit, or the total */
+enum { LIT_FOR_NOTHING, DARK, TOTAL_BELOW, TOTAL_ABOVE, CAUSES };
+
+/* turns and retirings that 11 refused, by the only thing that was wrong; those where something was wrong, by the number that refused them;
+   those that were done with the total as low or as high as it may be, and with a bit past the last bucket set; retirings that hold no slot,
+   where something was wrong, which nobody asks about; and runs that 11 stopped, but not at once */
+static unsigned long refuted[CALLS][CAUSES], outranked[CALLS][REFUSALS], lowest[CALLS], highest[CALLS], unused[CALLS], over_untrue,
+    untrue_later;
+
+/* calls that changed the index: the total up or down, a bit set or cleared; and those that changed each of its words */
+enum { UP, DOWN, LIT, CLEARED, WAYS };
+static unsigned long followed[CALLS][WAYS], followed_in[INDEX_WORDS];
+
+/* totals that no board has; next buckets, by how many words on they were found, and those found past a bit of the same word that is not
+   asked for; and none, from past the last bucket and from before it, and where a bit past the last is set */
+static unsigned long too_great, words_on[INDEX_WORDS - 1], passed, none_beyond, none_within, none_but_unused;
+
+static bool missing(const char *what, unsigned number, unsigned long times) {
+    if (times == 0) printf("never met: %s %u\n", what, number);
+    return times == 0;
+}
+
+/* an insert holds a slot at places 1 to 5 or does not, never at 6, and always at 7 to 10; nobody else holds one */
+static bool lacks_retirings(void) {
+    bool lacks = false;
+    for (unsigned place = 1; place <= LAST_PLACE; place++) {
+        if (place < 7 || place > 10) lacks |= missing("nothing held and retired at place", place, retired[place]);
+        if (place < 11 && place != 6) lacks |= missing("a slot held and retired at place", place, freed[place]);
+    }
+    for (unsigned mark = 0; mark <= DESK_MARK_INSERTING; mark++) lacks |= missing("a retiring over mark", mark, freed_mark[mark]);
+    lacks |= missing("a retiring that takes the version to", 0, freed_round);
+    lacks |= missing("retirings with nothing held over a broken bucket over", 0, over_broken);
+    return lacks;
+}
+
+static bool lacks_sleepers(void) {
+    bool lacks = missing("sleepers beside a turn over", 0, slept);
+    lacks |= missing("sleepers at the highest number beside a turn over", 0, slept_most);
+    lacks |= missing("idle workers beside a turn over", 0, idle_beside);
+    lacks |= missing("broken records beside a turn over", 0, broken_beside);
+    lacks |= missing("turns of sleepers over", 0, woke);
+    return lacks;
+}
+
+static bool lacks_indexes(which w) {
+    bool lacks = false;
+    for (unsigned cause = 0; cause < CAUSES; cause++)
+        lacks |= missing("refused for nothing but what the index has wrong:", cause, refuted[w][cause]);
+    lacks |= missing("with an untrue index, refused by", DESK_NO_WORKER, outranked[w][DESK_NO_WORKER]);
+    lacks |= missing("with an untrue index, refused by", DESK_BROKEN_RECORD, outranked[w][DESK_BROKEN_RECORD]);
+    lacks |= missing("with an untrue index, refused by", DESK_IDLE_WORKER, outranked[w][DESK_IDLE_WORKER]);
+    lacks |= missing("with an untrue index, refused by", DESK_BROKEN_BUCKET, outranked[w][DESK_BROKEN_BUCKET]);
+    lacks |= missing("the lowest total in an accepted call of", w, lowest[w]);
+    lacks |= missing("the highest total in an accepted call of", w, highest[w]);
+    lacks |= missing("a bit past the last bucket in an accepted call of", w, unused[w]);
+    lacks |= missing("the total down in a call of", w, followed[w][DOWN]);
+    lacks |= missing("a bit cleared in a call of", w, followed[w][CLEARED]);
+    return lacks;
+}
+
+static bool lacks_lengths(void) {
+    static const which calls[] = {OPEN, TURN, RUN, RETIRE, TOTAL, NEXT};
+    bool lacks = false;
+    for (size_t i = 0; i < sizeof calls / sizeof calls[0]; i++) {
+        lacks |= missing("refused for a short index a call of", calls[i], too_short[calls[i]]);
+        lacks |= missing("refused for a long index a call of", calls[i], too_long[calls[i]]);
+    }
+    return lacks;
+}
+
+/* a retiring makes no slot valid */
+static bool lacks_display(void) {
+    bool lacks = lacks_lengths();
+    lacks |= lacks_indexes(TURN);
+    lacks |= lacks_indexes(RETIRE);
+    for (unsigned way = 0; way < WAYS; way++) {
+        lacks |= missing("in turns a change of the index of kind", way, followed[TURN][way]);
+        lacks |= missing("in runs a change of the index of kind", way, followed[RUN][way]);
+    }
+    for (unsigned word = 0; word < INDEX_WORDS; word++) lacks |= missing("a change in the index of word", word, followed_in[word]);
+    lacks |= missing("retirings with nothing held over an untrue index over", 0, over_untrue);
+    lacks |= missing("turns done in a run that an untrue index stops over", 0, untrue_later);
+    lacks |= missing("totals that no board has over", 0, too_great);
+    for (unsigned words = 0; words < INDEX_WORDS - 1; words++) lacks |= missing("a next bucket so many words on:", words, words_on[words]);
+    lacks |= missing("next buckets past an occupied one of the same word over", 0, passed);
+    lacks |= missing("none from past the last bucket over", 0, none_beyond);
+    lacks |= missing("none from before it over", 0, none_within);
+    lacks |= missing("none where a bit past the last bucket is set over", 0, none_but_unused);
+    return lacks;
+}
+
+bool lacks_something(void) {
+    bool lacks = false;
+    for (size_t i = 0; i < CALLS; i++)
+        for (const unsigned *number = call_refusals[i]; *number != NO_MORE; number++)
+            lacks |= missing(call_names[i], *number, met[i][*number]);
+    for (unsigned place = 1; place <= LAST_PLACE; place++) lacks |= missing("a turn at place", place, places[place]);
+    lacks |= missing("changes in runs over", 0, changes);
+    lacks |= missing("lost swaps in runs over", 0, lost);
+    lacks |= missing("full rounds in runs over", 0, full);
+    lacks |= missing("turns in buckets over", 0, elsewhere[TURN]);
+    lacks |= missing("last turns of runs in buckets over", 0, elsewhere[RUN]);
+    lacks |= missing("turns that leave another mark word over", 0, changed[TURN]);
+    lacks |= missing("last turns of runs that leave another mark word over", 0, changed[RUN]);
+    lacks |= missing("turns done in a run that is stopped over", 0, stopped_later);
+    for (unsigned busy = 0; busy <= MOST_IN_CLASS; busy++) lacks |= missing("all orders where so many are busy:", busy, classes[busy]);
+    lacks |= missing("finished walks over", 0, finished);
+    lacks |= missing("cut walks over", 0, cut);
+    lacks |= missing("lost swaps in one walk over", 1, lost_more);
+    lacks |= lacks_retirings();
+    lacks |= lacks_sleepers();
+    lacks |= lacks_display();
+    return lacks;
+}
+
+void tell_what_was_met(void) {
+    printf("runs had %lu changes, %lu lost swaps, %lu full rounds; of all orders %lu were finished and %lu cut, with %lu lost swaps\n",
+        changes, lost, full, finished, cut, lost_in_walks);
+}
+
+/* ---- of one call */
+
+/* the bucket and its two words are the last three of a report's seven numbers */
+static void note_report(which w, const uint64_t *report) {
+    elsewhere[w] += report[4] != 0;
+    changed[w] += report[5] != report[6];
+}
+
+static void note_orders(const hall *h, const answer *a) {
+    if (a->number[0] == 0) classes[busy_workers(h)]++;
+    finished += a->number[1];
+    cut += a->number[2];
+    lost_in_walks += a->number[3];
+    lost_more += a->number[4] > 1;
+}
+
+found find(const hall *h, const call *c) {
+    found f = {.worker = {.held = HOLDS_NONE}};
+    if (c->worker < h->listed) f.worker = h->records[c->worker];
+    size_t bucket = desk_bucket(f.worker.key, h->floor.buckets);
+    if (bucket < MOST_BUCKETS) {
+        f.bucket = bucket;
+        f.word = h->board[BUCKET_WORDS * bucket];
+        f.spare = h->board[BUCKET_WORDS * bucket + DESK_AT_SPARE];
+    }
+    memcpy(f.records, h->records, sizeof f.records);
+    memcpy(f.index, h->index, sizeof f.index);
+    return f;
+}
+
+static bool marks_are_broken(uint64_t word) {
+    for (size_t slot = 0; slot < SLOTS; slot++)
+        if (desk_mark(word, slot) > DESK_MARK_INSERTING) return true;
+    return word >> 56 != 0;
+}
+
+/* of one that is done */
+static void note_retiring(const found *f) {
+    unsigned place = f->worker.place;
+    if (f->worker.held == HOLDS_NONE) {
+        retired[place]++;
+        over_broken += marks_are_broken(f->word) || f->spare != 0;
+        return;
+    }
+    freed[place]++;
+    freed_mark[desk_mark(f->word, f->worker.held)]++;
+    freed_round += desk_version(f->word) == 0xffffffff;
+}
+
+/* whether a record is idle, broken or busy, as a start for it says */
+static uint8_t refused_start(desk_worker w) {
+    uint64_t bucket[BUCKET_WORDS] = {0};
+    desk_floor floor = {.workers = 1, .buckets = 1};
+    return by_hand.start_look(bucket, BUCKET_WORDS, &w, 1, floor, 0, 0).refusal;
+}
+
+/* of a turn that is done */
+static void note_sleepers(const found *f, size_t listed, size_t worker) {
+    woke += f->worker.asleep != 0;
+    for (size_t i = 0; i < listed; i++) {
+        if (i == worker) continue;
+        uint8_t refusal = refused_start(f->records[i]);
+        idle_beside += refusal == 0;
+        broken_beside += refusal == DESK_BROKEN_RECORD;
+        slept += refusal == DESK_BUSY_WORKER && f->records[i].asleep != UINT32_MAX;
+        slept_most += refusal == DESK_BUSY_WORKER && f->records[i].asleep == UINT32_MAX;
+    }
+}
+
+static uint64_t valid_in(uint64_t word) {
+    uint64_t valid = 0;
+    for (size_t slot = 0; slot < SLOTS; slot++) valid += desk_mark(word, slot) == DESK_MARK_VALID;
+    return valid;
+}
+
+/* whether a bit of these buckets is set, of which the last is left out */
+static bool any_lit(const uint64_t *index, size_t from, size_t to) {
+    for (size_t bucket = from; bucket < to; bucket++)
+        if (index[1 + bucket / IN_WORD] >> bucket % IN_WORD & 1) return true;
+    return false;
+}
+
+/* what the index has wrong about the bucket that was found, a bit for each thing */
+static unsigned wrong_about(const found *f, size_t buckets) {
+    uint64_t valid = valid_in(f->word), total = f->index[0];
+    bool lit = any_lit(f->index, f->bucket, f->bucket + 1);
+    return (unsigned)(lit && valid == 0) << LIT_FOR_NOTHING | (unsigned)(!lit && valid > 0) << DARK |
+        (unsigned)(total < valid) << TOTAL_BELOW | (unsigned)(total > SLOTS * buckets - (SLOTS - valid)) << TOTAL_ABOVE;
+}
+
+/* of a call that looked at the index and found it true enough; of one bucket the lowest total is the highest */
+static void note_true(which w, const found *f, size_t buckets) {
+    uint64_t valid = valid_in(f->word);
+    lowest[w] += buckets > 1 && f->index[0] == valid;
+    highest[w] += buckets > 1 && f->index[0] == SLOTS * buckets - (SLOTS - valid);
+    unused[w] += any_lit(f->index, buckets, MOST_BUCKETS);
+}
+
+/* of a turn or a retiring whose sizes are right */
+static void note_index(which w, const found *f, size_t buckets, uint64_t refusal) {
+    unsigned wrong = wrong_about(f, buckets);
+    for (unsigned cause = 0; cause < CAUSES; cause++) refuted[w][cause] += refusal == DESK_UNTRUE_INDEX && wrong == 1u << cause;
+    outranked[w][refusal % REFUSALS] += wrong != 0;
+    if (refusal != 0) return;
+    if (w == RETIRE && f->worker.held == HOLDS_NONE) over_untrue += wrong != 0;
+    else note_true(w, f, buckets);
+}
+
+static void note_following(which w, const uint64_t *before, const uint64_t *after) {
+    followed[w][UP] += after[0] > before[0];
+    followed[w][DOWN] += after[0] < before[0];
+    for (size_t i = 0; i < INDEX_WORDS; i++) {
+        followed[w][LIT] += i > 0 && (after[i] & ~before[i]) != 0;
+        followed[w][CLEARED] += i > 0 && (before[i] & ~after[i]) != 0;
+        followed_in[i] += after[i] != before[i];
+    }
+}
+
+/* of one that is answered */
+static void note_next(size_t from, size_t buckets, const uint64_t *index, const answer *a) {
+    bool is_found = a->number[1] != 0;
+    size_t bucket = a->number[2];
+    if (is_found) {
+        words_on[(bucket / IN_WORD - from / IN_WORD) % (INDEX_WORDS - 1)]++;
+        passed += any_lit(index, from - from % IN_WORD, from);
+        return;
+    }
+    none_beyond += from >= buckets;
+    none_within += from < buckets;
+    none_but_unused += from < buckets && any_lit(index, buckets, MOST_BUCKETS);
+}
+
+static bool within(size_t number, size_t most) {
+    return number >= 1 && number <= most;
+}
+
+/* of a call that is refused for its sizes; the questions are given no list */
+static void note_lengths(const call *c, const hall *h) {
+    size_t workers = c->which == OPEN ? c->plan.workers : h->floor.workers, buckets = c->which == OPEN ? c->plan.buckets : h->floor.buckets;
+    if (!within(workers, MOST_WORKERS) || !within(buckets, MOST_BUCKETS) || h->words != BUCKET_WORDS * buckets) return;
+    if (c->which != TOTAL && c->which != NEXT && h->listed != workers) return;
+    too_short[c->which] += h->entries < INDEX_WORDS;
+    too_long[c->which] += h->entries > INDEX_WORDS;
+}
+
+static void note_display(const call *c, const hall *h, const answer *a, const found *f) {
+    uint64_t refusal = a->number[0];
+    size_t buckets = h->floor.buckets;
+    if (refusal == DESK_WRONG_SIZES) {
+        note_lengths(c, h);
+        return;
+    }
+    if (c->which == TURN || c->which == RETIRE) note_index(c->which, f, buckets, refusal);
+    if (c->which == TURN || c->which == RETIRE || c->which == RUN) note_following(c->which, f->index, h->index);
+    if (c->which == RUN) untrue_later += refusal == DESK_UNTRUE_INDEX && a->number[1] != 0;
+    if (c->which == TOTAL) too_great += a->number[1] > SLOTS * buckets;
+    if (c->which == NEXT) note_next(c->from, buckets, h->index, a);
+}
+
+void note(const call *c, const hall *h, const answer *a, const found *f) {
+    unsigned place = f->worker.place;
+    met[c->which][a->number[0] % REFUSALS]++;
+    note_display(c, h, a, f);
+    if (c->which == ORDERS) note_orders(h, a);
+    if (c->which == RETIRE && a->number[0] == 0) note_retiring(f);
+    if (c->which == TURN) {
+        if (a->number[0] == 0 && place <= LAST_PLACE) places[place]++;
+        if (a->number[0] == 0) note_sleepers(f, h->listed, c->worker);
+        note_report(TURN, a->number + REPORT_OF_TURN);
+    }
+    if (c->which == RUN) {
+        changes += a->number[2];
+        lost += a->number[3];
+        full += a->number[4];
+        stopped_later += a->number[0] != 0 && a->number[1] != 0;
+        note_report(RUN, a->number + REPORT_OF_RUN);
+    }
+}

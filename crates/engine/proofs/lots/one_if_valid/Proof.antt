@@ -1,7 +1,0 @@
-use native.Mathlib.Omega.{arith}
-use Rattle.mark.proofs.Choices.{choices}
-use Rattle.engine.proofs.lots.one_if_valid.Statement.{statement}
-use Rattle.engine.proofs.lots.one_if_valid.Tie as tie
-
-pub one-if-valid-spec : {M : Type 1} → statement M
-one-if-valid-spec = tie.close (tie.spec (λ c. (search choices, omega arith)) (λ c. (search choices, omega arith)))
