@@ -35,8 +35,8 @@ module _ (t : Totals) where
   go-on-adds :
       (rest : After Ran → After Ran) (i place : ℕ) (board : List ℕ) (w : Worker) (a : Answer) (ws : List Worker) (u : Totals) (last : Report)
       → ((vs : List Worker) (n : Totals) (r : Report) → rest (standing board vs (added t n) r 0) ≡ counting (rest (standing board vs n r 0)))
-      → goOn rest i place board w a (standing board ws (added t u) last 0 .handed)
-      ≡ counting (goOn rest i place board w a (standing board ws u last 0 .handed))
+      → goOn rest (λ x. x) i place board w a (standing board ws (added t u) last 0 .handed)
+      ≡ counting (goOn rest (λ x. x) i place board w a (standing board ws u last 0 .handed))
   go-on-adds rest i place board w (Refused number) ws u last same = refl
   go-on-adds rest i place board w (Done report) ws u last same =
       ap (λ (n : Totals). rest (standing board (afterTurn ws i w) n report 0)) (tallied-adds place report u)

@@ -214,15 +214,15 @@ recordsLeft records i w (Refused number) = records
 recordsLeft records i w (Done report) = afterTurn records i w
 
 -- §4.10: what the turn of worker t came to: the run goes on from there, or it stops and leaves what was done before
-abbrev pub goOn : (After Ran → After Ran) → ℕ → ℕ → List ℕ → Worker → Answer → Ran → After Ran
-goOn rest t place board w (Refused number) r = standing board (r .records) (r .totals) (r .last) number
-goOn rest t place board w (Done report) r = rest (standing board (afterTurn (r .records) t w) (tallied place report (r .totals)) report 0)
+abbrev pub goOn : {A : Type 0} → (After Ran → A) → (After Ran → A) → ℕ → ℕ → List ℕ → Worker → Answer → Ran → A
+goOn rest stops t place board w (Refused number) r = stops (standing board (r .records) (r .totals) (r .last) number)
+goOn rest stops t place board w (Done report) r = rest (standing board (afterTurn (r .records) t w) (tallied place report (r .totals)) report 0)
 
 -- one turn of worker t, and then the rest
 abbrev pub oneTurn : (After Ran → After Ran) → Floor → ℕ → Worker → After Ran → After Ran
 oneTurn rest f t w s =
     let x : After Turned = turned (eachNumber f (s .words) t w) f (s .words) w in
-    goOn rest t (w .place) (x .words) (x .handed .worker) (x .handed .answer) (s .handed)
+    goOn rest (λ y. y) t (w .place) (x .words) (x .handed .worker) (x .handed .answer) (s .handed)
 
 -- §4.10: the turns of a list, from where a run stands
 unfoldable pub runFrom : Floor → List ℕ → After Ran → After Ran

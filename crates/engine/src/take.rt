@@ -45,5 +45,5 @@ pub fn retire_refusal(board: &[u64], floor: Floor, w: Worker) -> u8
     ensures { λ r. ⌜ r ≡ retireRefusal (bucketFor floor (now (board .entry)) (w .key)) w ⌝ }
 {
     let at = lots::first_word(w.key, floor.buckets);
-    turn::retire::retire_refusal(&board[at..at + 8], w)
+    turn::retire::retire_number(&board[at..at + 8], w)
 }

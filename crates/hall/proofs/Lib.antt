@@ -6,6 +6,8 @@ pub mod Same
 pub mod Plain
 pub mod Stops
 pub mod Refused
+pub mod Last
+pub mod Unheld
 pub mod Determined
 -- the index by its words and bits, and a board by its buckets
 pub mod Followed

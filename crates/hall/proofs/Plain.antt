@@ -22,7 +22,7 @@ use Rattle.hall.specs.Refusals.{wrongIndex, untrueAfter, untrueFor, untr
 use Rattle.hall.specs.Calls.{hallTurn, indexLeft}
 use Rattle.hall.proofs.Followed.{followed-long}
 
--- 11 comes only where no other number does
+-- where there is no number at all, there is none before 11
 pub after-none : (n : ℕ) (t : Bool) → untrueAfter n t ≡ 0 → n ≡ 0
 after-none n t = by-cases (λ (x : ℕ). x ≡ 0 → n ≡ 0) (eqb n 0) (cond t 11 0) n (λ is none. eqb-true n 0 is) (λ isnot none. none)
 

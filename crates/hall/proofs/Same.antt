@@ -109,14 +109,14 @@ run-from-same f (t ∷ turns) index x fits reads =
         → hallRunFrom f turns (indexed later z) .left ≡ runFrom f turns z)
         → (place : ℕ)
         → hallGoOn (hallRunFrom f turns) t place (y .words) index (y .handed .worker) (y .handed .answer) (x .handed) .left
-        ≡ goOn (runFrom f turns) t place (y .words) (y .handed .worker) (y .handed .answer) (x .handed)
+        ≡ goOn (runFrom f turns) (λ z. z) t place (y .words) (y .handed .worker) (y .handed .answer) (x .handed)
     goes y fits reads rest place = by (y .handed .answer) reads
       where
         by :
             (a : Answer)
             → Reads (y .words) (f .buckets) (indexLeft index a)
             → hallGoOn (hallRunFrom f turns) t place (y .words) index (y .handed .worker) a (x .handed) .left
-            ≡ goOn (runFrom f turns) t place (y .words) (y .handed .worker) a (x .handed)
+            ≡ goOn (runFrom f turns) (λ z. z) t place (y .words) (y .handed .worker) a (x .handed)
         by (Refused number) reads = refl
         by (Done report) reads = rest _ _ fits reads
 

@@ -16,7 +16,7 @@ use Rattle.engine.specs.declared.Seat.{Seat}
 use Rattle.engine.specs.declared.Laid.{Laid}
 use Rattle.engine.specs.Board.{bucketOf}
 use Rattle.engine.specs.Refusals.{bucketFor}
-use Rattle.engine.specs.Calls.{Opened, Ran, planned, openedBy, laidBy, turned, tried, retired, vacatedOn, standing, unbegun, recordIn, afterTurn, tallied}
+use Rattle.engine.specs.Calls.{Opened, Ran, planned, openedBy, laidBy, turned, tried, retired, vacatedOn, unbegun, recordIn, goOn}
 use Rattle.hall.specs.declared.Totalled.{Totalled}
 use Rattle.hall.specs.declared.Totalled.the-variants as Totalled
 use Rattle.hall.specs.declared.Next.{Next}
@@ -78,12 +78,9 @@ pub record Indexed (A : Type 0) : Type 0 where
 abbrev pub indexed : {A : Type 0} → List ℕ → A → Indexed A
 indexed index left = record { index = index; left = left }
 
--- §4.10: what the turn of worker t came to: the run goes on from there, or it stops and leaves what was done before
+-- §4.10, §21.2: what the turn of worker t came to, as in the engine's run, with the index that it leaves
 abbrev pub hallGoOn : (Indexed (After Ran) → Indexed (After Ran)) → ℕ → ℕ → List ℕ → List ℕ → Worker → Answer → Ran → Indexed (After Ran)
-hallGoOn rest t place board index w (Refused number) r = indexed index (standing board (r .records) (r .totals) (r .last) number)
-hallGoOn rest t place board index w (Done report) r =
-    rest
-    (indexed (indexLeft index (Done report)) (standing board (afterTurn (r .records) t w) (tallied place report (r .totals)) report 0))
+hallGoOn rest t place board index w a r = goOn (λ x. rest (indexed (indexLeft index a) x)) (indexed index) t place board w a r
 
 -- one turn of worker t, and then the rest
 abbrev pub hallOneTurn : (Indexed (After Ran) → Indexed (After Ran)) → Floor → ℕ → Worker → Indexed (After Ran) → Indexed (After Ran)

@@ -36,7 +36,7 @@ module _ (t : ℕ) (ts : List ℕ) (board : List ℕ) (d : Desk) (last : Report)
   Goes x =
       length (x .words) ≡ length board
       → Same f (andThen (turnListed t w (x .words) (x .handed .worker) (x .handed .answer) d) (turnsDone ts))
-      (goOn (runFrom f ts) t (w .place) (x .words) (x .handed .worker) (x .handed .answer) (standing board (d .records) (d .totals) last 0 .handed))
+      (goOn (runFrom f ts) (λ y. y) t (w .place) (x .words) (x .handed .worker) (x .handed .answer) (standing board (d .records) (d .totals) last 0 .handed))
 
   one-turn :
       ((later : List ℕ) (ws : List Worker) (n : Totals) (r : Report)

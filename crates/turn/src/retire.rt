@@ -20,7 +20,7 @@ fn held_refusal(lent: &[u64], w: Worker) -> u8
 }
 
 // §7.2: the number of refusal, or 0.
-pub fn retire_refusal(lent: &[u64], w: Worker) -> u8
+fn retire_refusal(lent: &[u64], w: Worker) -> u8
     ensures { λ r. ⌜ r ≡ retireRefusal (now (lent .entry)) w ⌝ }
 {
     if record::is_sound(w) {
@@ -28,6 +28,19 @@ pub fn retire_refusal(lent: &[u64], w: Worker) -> u8
     }
     if record::is_idle(w) {
         return refusal::IDLE_WORKER;
+    }
+    refusal::BROKEN_RECORD
+}
+
+// §7.2: the same number where it is only asked for (decision 178).
+pub fn retire_number(lent: &[u64], w: Worker) -> u8
+    ensures { λ r. ⌜ r ≡ retireRefusal (now (lent .entry)) w ⌝ }
+{
+    if record::is_idle(w) {
+        return refusal::IDLE_WORKER;
+    }
+    if record::is_sound(w) {
+        return held_refusal(lent, w);
     }
     refusal::BROKEN_RECORD
 }

@@ -24,8 +24,8 @@ unsaid x = standing (x .words) (x .handed .records) (x .handed .totals) noReport
 
 module _ (f : Floor) (board : List ℕ) (records : List Worker) (t : Totals) (r s : Report) where
   goes-same : (turns : List ℕ) (i place : ℕ) (later : List ℕ) (w : Worker) (a : Answer)
-      → unsaid (goOn (runFrom f turns) i place later w a (standing board records t r 0 .handed))
-      ≡ unsaid (goOn (runFrom f turns) i place later w a (standing board records t s 0 .handed))
+      → unsaid (goOn (runFrom f turns) (λ x. x) i place later w a (standing board records t r 0 .handed))
+      ≡ unsaid (goOn (runFrom f turns) (λ x. x) i place later w a (standing board records t s 0 .handed))
   goes-same turns i place later w (Refused number) = refl
   goes-same turns i place later w (Done report) = refl
 

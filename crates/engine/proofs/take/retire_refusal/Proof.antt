@@ -16,4 +16,4 @@ retire-refusal-spec =
     (λ c κs. search needs)
     (λ c.
     let f = c .before .before in
-    c .retire-refusal .ensures ∙ ap (λ (l : List ℕ). retireRefusal l (f .before .before .args .w)) (part-at _ _ _ (f .first-word .ensures .0))))
+    c .retire-number .ensures ∙ ap (λ (l : List ℕ). retireRefusal l (f .before .before .args .w)) (part-at _ _ _ (f .first-word .ensures .0))))
