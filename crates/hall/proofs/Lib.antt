@@ -8,6 +8,7 @@ pub mod Stops
 pub mod Refused
 pub mod Last
 pub mod Unheld
+pub mod Others
 pub mod Determined
 -- the index by its words and bits, and a board by its buckets
 pub mod Followed
