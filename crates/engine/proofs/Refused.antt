@@ -16,7 +16,7 @@ use Rattle.engine.specs.Refusals.{openNumber, startNumber, turnNumber, r
 use Rattle.engine.specs.Calls.{planned, openCall, startCall, turned, turnCall, retired, retireCall, unbegun, runCall, showCall, countCall}
 
 -- a number other than 0 chooses the refusal
-refuses : {A : Type 0} (n : ℕ) (accepted refused : A) → (n ≡ 0 → ⊥) → cond (eqb n 0) accepted refused ≡ refused
+pub refuses : {A : Type 0} (n : ℕ) (accepted refused : A) → (n ≡ 0 → ⊥) → cond (eqb n 0) accepted refused ≡ refused
 refuses n accepted refused some = rw (ne-eqb n 0 some)
 
 module _ (board : List ℕ) (f : Floor) (records : List Worker) (listed : ℕ) where

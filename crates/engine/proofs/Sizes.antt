@@ -1,7 +1,7 @@
 -- What the test of the sizes says when it lets a floor through. Assumes nothing.
 use Prim.Native.Nat.{ℕ, _*_}
 use mathlib.Core.Bool.{Bool, true, false, _||_, and-eq-true-iff}
-use mathlib.Core.Path.{_≡_, refl}
+use mathlib.Core.Path.{_≡_, refl, _∙_}
 use mathlib.Core.List.{List}
 use lib.ListN.{length}
 use borrow.Author.Tests.{eqb-true, eq-eqb, leb-true, le-leb, not-false}
@@ -40,6 +40,17 @@ right-sizes f board listed is = right f board (both-fail _ _ is .0)
 pub right-listed : (f : Floor) (board : List ℕ) (listed : ℕ) → wrongSizes f board listed ≡ false → listed ≡ f .workers
 unfolding wrongSizes wrongFloor
 right-listed f board listed is = eqb-true _ _ (not-false _ (both-fail (wrongFloor f board) _ is .1))
+
+-- a board that is as long as one that fits the floor fits it too
+pub fits-still : (f : Floor) (board later : List ℕ) → Right f board → length later ≡ length board → Right f later
+fits-still f board later fits long =
+    record {
+      some-worker = fits .some-worker;
+      workers = fits .workers;
+      some-bucket = fits .some-bucket;
+      buckets = fits .buckets;
+      words = long ∙ fits .words;
+    }
 
 -- where floor and board fit together, the test lets them through
 pub floor-right : (f : Floor) (board : List ℕ) → Right f board → wrongFloor f board ≡ false

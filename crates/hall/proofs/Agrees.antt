@@ -1,5 +1,5 @@
 -- What it says that an index is not untrue for a bucket (§21.5): and where it has followed the bucket, it is so again. Assumes nothing.
-use Prim.Native.Nat.{ℕ, _-_, _≤_, _<_}
+use Prim.Native.Nat.{ℕ, _≤_, _<_}
 use mathlib.Core.Bool.{Bool, true, false, xor}
 use mathlib.Core.List.{List}
 use mathlib.Core.Path.{_≡_, refl, sym}

@@ -1,6 +1,6 @@
 -- An index that is the full reading of the board is that of the board which a turn or a retiring leaves. Assumes nothing.
 use Prim.Native.Nat.{ℕ}
-use mathlib.Core.List.{List, []}
+use mathlib.Core.List.{List}
 use mathlib.Core.Path.{_≡_, ap, subst, _∙_}
 use native.Mathlib.Nat.{mod-lt}
 use lib.Dec.{eqb}

@@ -5,15 +5,16 @@ use mathlib.Core.Bool.{Bool}
 use mathlib.Core.List.{List}
 use mathlib.Core.Path.{_≡_}
 use lib.ListN.{length}
-use borrow.Author.Tests.{eq-eqb, ne-eqb}
+use borrow.Author.Tests.{eq-eqb}
 use Rattle.turn.specs.declared.Worker.{Worker}
 use Rattle.engine.specs.declared.Floor.{Floor}
 use Rattle.engine.specs.Refusals.{eachNumber, turnNumber, retireNumber}
 use Rattle.hall.specs.Refusals.{untrueAfter, untrueFor, untrueIfHeld, hallEachNumber, hallTurnNumber, hallRetireNumber}
+use Rattle.hall.proofs.Numbers.{after-same}
 
 -- a number that there is already stays
 stays : (n : ℕ) (t : Bool) → (n ≡ 0 → ⊥) → untrueAfter n t ≡ n
-stays n t some = rw (ne-eqb n 0 some)
+stays n t some = after-same n t (λ none. absurd (some none))
 
 module _ (f : Floor) (board index : List ℕ) (i : ℕ) (w : Worker) where
   -- §7.2: a turn in a run

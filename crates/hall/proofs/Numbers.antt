@@ -1,5 +1,5 @@
 -- The numbers of the calls that take the index, and what they say of a turn that was tried. Assumes nothing.
-use Prim.Native.Nat.{ℕ, _-_}
+use Prim.Native.Nat.{ℕ}
 use mathlib.Core.Bool.{Bool, true, false, cond}
 use mathlib.Core.List.{List}
 use mathlib.Core.Path.{_≡_, refl, sym, ap, _∙_}
@@ -28,16 +28,16 @@ use Rattle.hall.specs.Calls.{indexLeft}
 -- ---- 1, and 11 after all others
 
 -- where the sizes are wrong, the number is 1
-abbrev sizeNumber : Bool → Bool → ℕ
-sizeNumber t u = cond t 1 (cond u 1 0)
+abbrev wrongNumber : Bool → Bool → ℕ
+wrongNumber t u = cond t 1 (cond u 1 0)
 
-pub first-number : (t u : Bool) (n : ℕ) (x : Bool) → (sizeNumber t u ≡ 0 → ⊥) → cond t 1 (untrueAfter (cond u 1 n) x) ≡ 1
+pub first-number : (t u : Bool) (n : ℕ) (x : Bool) → (wrongNumber t u ≡ 0 → ⊥) → cond t 1 (untrueAfter (cond u 1 n) x) ≡ 1
 first-number true u n x some = refl
 first-number false true n x some = refl
 first-number false false n x some = absurd (some refl)
 
 -- where they are right, neither is
-pub no-first : (t u : Bool) → sizeNumber t u ≡ 0 → (t ≡ false) × (u ≡ false)
+pub no-first : (t u : Bool) → wrongNumber t u ≡ 0 → (t ≡ false) × (u ≡ false)
 no-first true u none = absurd (omega arith)
 no-first false true none = absurd (omega arith)
 no-first false false none = (refl, refl)
@@ -46,9 +46,12 @@ no-first false false none = (refl, refl)
 pub untrue-some : (n : ℕ) → eqb (untrueAfter n true) 0 ≡ false
 untrue-some n = by-cases (λ (x : ℕ). eqb x 0 ≡ false) (eqb n 0) 11 n (λ is. refl) (λ isnot. isnot)
 
--- and one that is not, no other
+-- where the index is true, or there is another number, 11 does not come
+pub after-same : (n : ℕ) (t : Bool) → (n ≡ 0 → t ≡ false) → untrueAfter n t ≡ n
+after-same n t ok = by-cases (λ (x : ℕ). x ≡ n) (eqb n 0) _ _ (λ is. rw (ok (eqb-true n 0 is)) (sym (eqb-true n 0 is))) (λ isnot. refl)
+
 pub untrue-none : (n : ℕ) → untrueAfter n false ≡ n
-untrue-none n = by-cases (λ (x : ℕ). x ≡ n) (eqb n 0) 0 n (λ is. sym (eqb-true n 0 is)) (λ isnot. refl)
+untrue-none n = after-same n false (λ none. refl)
 
 -- ---- a turn that was tried
 
@@ -90,7 +93,7 @@ touched-is board f lot r fits is =
 
 -- ---- the numbers of the calls
 
-module _ (f : Floor) (board index : List ℕ) (listed i : ℕ) (w : Worker) where
+module _ (f : Floor) (board index : List ℕ) (listed : ℕ) where
   -- the test of the sizes
   abbrev pub sizesNumber : ℕ
   sizesNumber = hallRunRefusal f (length board) listed (length index) 0
@@ -101,30 +104,31 @@ module _ (f : Floor) (board index : List ℕ) (listed i : ℕ) (w : Worker) wher
   abbrev short : Bool
   short = wrongIndex (length index)
 
-  -- where the sizes are wrong, a turn and a retiring have 1
-  pub turn-first : (sizesNumber ≡ 0 → ⊥) → hallTurnNumber f board index listed i w ≡ 1
-  unfolding hallTurnNumber turnNumber wrongSizes
-  turn-first some = first-number short unsized (eachNumber f board i w) (untrueFor f board index w) some
+  -- where they are right, there are five words, and floor and board fit together
+  pub right-both : sizesNumber ≡ 0 → (length index ≡ 5) × Right f board
+  unfolding wrongSizes
+  right-both none =
+      let neither = no-first short unsized none in
+      (eqb-true (length index) 5 (not-false _ (neither .0)), right-sizes f board listed (neither .1))
 
-  pub retire-first : (sizesNumber ≡ 0 → ⊥) → hallRetireNumber f board index listed i w ≡ 1
-  unfolding hallRetireNumber retireNumber wrongSizes
-  retire-first some =
-      first-number short unsized (cond (noWorker f i) 2 (retireRefusal (bucketFor f board (w .key)) w)) (untrueIfHeld f board index w) some
+  module _ (i : ℕ) (w : Worker) where
+    -- where they are wrong, a turn and a retiring have 1
+    pub turn-first : (sizesNumber ≡ 0 → ⊥) → hallTurnNumber f board index listed i w ≡ 1
+    unfolding hallTurnNumber turnNumber wrongSizes
+    turn-first some = first-number short unsized (eachNumber f board i w) (untrueFor f board index w) some
 
-  module _ (none : sizesNumber ≡ 0) where
-    five : short ≡ false
-    five = no-first short unsized none .0
+    pub retire-first : (sizesNumber ≡ 0 → ⊥) → hallRetireNumber f board index listed i w ≡ 1
+    unfolding hallRetireNumber retireNumber wrongSizes
+    retire-first some =
+        first-number short unsized (cond (noWorker f i) 2 (retireRefusal (bucketFor f board (w .key)) w)) (untrueIfHeld f board index w) some
 
-    -- where they are right, there are five words, and floor and board fit together
-    pub right-both : (length index ≡ 5) × Right f board
-    unfolding wrongSizes
-    right-both = (eqb-true (length index) 5 (not-false _ five), right-sizes f board listed (no-first short unsized none .1))
-
-    -- and 11 comes after the engine's number
-    pub turn-after : hallTurnNumber f board index listed i w ≡ untrueAfter (turnNumber f board listed i w) (untrueFor f board index w)
+    -- and where they are right, 11 comes after the engine's number
+    pub turn-after :
+        sizesNumber ≡ 0 → hallTurnNumber f board index listed i w ≡ untrueAfter (turnNumber f board listed i w) (untrueFor f board index w)
     unfolding hallTurnNumber
-    turn-after = rw five
+    turn-after none = rw (no-first short unsized none .0)
 
-    pub retire-after : hallRetireNumber f board index listed i w ≡ untrueAfter (retireNumber f board listed i w) (untrueIfHeld f board index w)
+    pub retire-after :
+        sizesNumber ≡ 0 → hallRetireNumber f board index listed i w ≡ untrueAfter (retireNumber f board listed i w) (untrueIfHeld f board index w)
     unfolding hallRetireNumber
-    retire-after = rw five
+    retire-after none = rw (no-first short unsized none .0)

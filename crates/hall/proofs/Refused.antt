@@ -1,10 +1,8 @@
 -- §7.1, §11.1: what is refused leaves all as it was, the index too: the call hands back its number with everything as it came. Assumes
 -- nothing.
 use Prim.Native.Nat.{ℕ}
-use mathlib.Core.Bool.{cond}
 use mathlib.Core.Path.{_≡_}
 use mathlib.Core.List.{List}
-use lib.Dec.{eqb}
 use borrow.Author.Tests.{ne-eqb}
 use Rattle.turn.specs.declared.Worker.{Worker}
 use Rattle.turn.specs.Turn.{after, refusing}
@@ -13,14 +11,11 @@ use Rattle.engine.specs.declared.Floor.{Floor}
 use Rattle.engine.specs.declared.Plan.{Plan}
 use Rattle.engine.specs.declared.Seat.{Seat}
 use Rattle.engine.specs.Calls.{planned, turned, retired, unbegun}
+use Rattle.engine.proofs.Refused.{refuses}
 use Rattle.hall.specs.declared.Totalled.the-variants as Totalled
 use Rattle.hall.specs.declared.Next.the-variants as Next
 use Rattle.hall.specs.Refusals.{hallOpenNumber, hallTurnNumber, hallRetireNumber, hallRunNumber, questionNumber}
 use Rattle.hall.specs.Calls.{hallOpen, openedIndex, hallTurn, indexLeft, hallRetire, retiredIndex, indexed, hallRun, totalCall, nextCall}
-
--- a number other than 0 chooses the refusal
-refuses : {A : Type 0} (n : ℕ) (accepted refused : A) → (n ≡ 0 → ⊥) → cond (eqb n 0) accepted refused ≡ refused
-refuses n accepted refused some = rw (ne-eqb n 0 some)
 
 module _ (board index : List ℕ) (f : Floor) (records : List Worker) (listed : ℕ) where
   -- an opening

@@ -23,6 +23,7 @@ use Rattle.engine.specs.Refusals.{bucketFor, retireNumber}
 use Rattle.engine.specs.Room.{Right}
 use Rattle.engine.specs.Promises.{BucketTouched}
 use Rattle.engine.specs.Calls.{vacatedOn, retired, retireCall}
+use Rattle.engine.proofs.Sizes.{fits-still}
 use Rattle.engine.proofs.Retiring.{refused-retired, retired-number, vacated-nothing, vacated-board-long}
 use Rattle.hall.specs.Index.{totalIn, validIn, followed}
 use Rattle.hall.specs.Refusals.{untrueAfter, untrueIfHeld, hallRetireNumber}
@@ -34,7 +35,7 @@ use Rattle.hall.proofs.Turns.{Followable}
 
 module _ (board index : List ℕ) (s : Seat) (w : Worker) where
   abbrev pub sizes : ℕ
-  sizes = sizesNumber (s .floor) board index (s .listed) (s .worker) w
+  sizes = sizesNumber (s .floor) board index (s .listed)
 
   abbrev number : ℕ
   number = retireNumber (s .floor) board (s .listed) (s .worker) w
@@ -63,7 +64,7 @@ module _ (board index : List ℕ) (s : Seat) (w : Worker) where
 
   module _ (sized : sizes ≡ 0) where
     pub both : (length index ≡ 5) × Right (s .floor) board
-    both = right-both (s .floor) board index (s .listed) (s .worker) w sized
+    both = right-both (s .floor) board index (s .listed) sized
 
     abbrev fits : Right (s .floor) board
     fits = both .1
@@ -106,14 +107,7 @@ module _ (board index : List ℕ) (s : Seat) (w : Worker) where
         old = touched-is board (s .floor) (w .key) before fits met
 
         still : Right (s .floor) later
-        still =
-            record {
-              some-worker = fits .some-worker;
-              workers = fits .workers;
-              some-bucket = fits .some-bucket;
-              buckets = fits .buckets;
-              words = ap length left-is ∙ vacated-board-long (s .floor) board w fits ∙ fits .words;
-            }
+        still = fits-still (s .floor) board later fits (ap length left-is ∙ vacated-board-long (s .floor) board w fits)
 
         new : after-that .word ≡ cell (bucketFor (s .floor) later (w .key)) markCell
         new = touched-is later (s .floor) (w .key) after-that still met-again .1

@@ -2,12 +2,12 @@
 use Prim.Native.Nat.{ℕ}
 use mathlib.Core.Bool.{Bool, true, false, cond, and-false}
 use mathlib.Core.List.{List, [], _∷_}
-use mathlib.Core.Path.{_≡_, refl, sym, ap, _∙_}
+use mathlib.Core.Path.{_≡_, refl, ap}
 use native.Mathlib.Nat.{mod-lt}
 use lib.Dec.{eqb}
 use lib.ListN.{length}
 use borrow.Author.Tests.{eqb-true}
-use Rattle.mark.proofs.Choices.{by-cases, passes}
+use Rattle.mark.proofs.Choices.{passes}
 use Rattle.turn.specs.declared.Worker.{Worker}
 use Rattle.turn.specs.Turn.{Answer, Refused, Done, Turned, After}
 use Rattle.engine.specs.declared.Floor.{Floor}
@@ -15,20 +15,17 @@ use Rattle.engine.specs.declared.Seat.{Seat}
 use Rattle.engine.specs.Room.{Right}
 use Rattle.engine.specs.Refusals.{wrongListed, wrongSizes, runNumber, eachNumber, turnNumber, retireNumber}
 use Rattle.engine.specs.Calls.{Ran, turned, turnCall, retired, retireCall, unbegun, recordIn, goOn, runFrom, runCall}
-use Rattle.engine.proofs.Sizes.{right-sizes}
+use Rattle.engine.proofs.Sizes.{right-sizes, fits-still}
 use Rattle.engine.proofs.Turns.{own}
 use Rattle.engine.proofs.Keeps.{each-accepted, turn-accepted, each-keeps}
 use Rattle.engine.proofs.Retiring.{retire-accepted}
-use Rattle.hall.specs.Refusals.{wrongIndex, untrueAfter, untrueFor, touches, untrueIfHeld, hallEachNumber, hallTurnNumber, hallRetireNumber}
+use Rattle.hall.specs.Refusals.{wrongIndex, untrueFor, touches, untrueIfHeld, hallEachNumber, hallTurnNumber, hallRetireNumber}
 use Rattle.hall.specs.Calls.{hallTurn, indexLeft, hallRetire, indexed, hallGoOn, hallRunFrom, hallRun}
 use Rattle.hall.specs.Reading.{Reads}
 use Rattle.hall.proofs.Reading.{reads-true}
 use Rattle.hall.proofs.Kept.{reads-turned}
+use Rattle.hall.proofs.Numbers.{after-same}
 use Rattle.hall.proofs.Plain.{five-run}
-
--- 11 does not come where the index is true wherever there is no other number
-after-same : (n : ℕ) (t : Bool) → (n ≡ 0 → t ≡ false) → untrueAfter n t ≡ n
-after-same n t ok = by-cases (λ (x : ℕ). x ≡ n) (eqb n 0) _ _ (λ is. rw (ok (eqb-true n 0 is)) (sym (eqb-true n 0 is))) (λ isnot. refl)
 
 module _ (f : Floor) {board index : List ℕ} (reads : Reads board (f .buckets) index) where
   -- where floor and board fit together, the index is true for the bucket of any lot
@@ -65,17 +62,6 @@ pub retire-same :
     {board index : List ℕ} (s : Seat) → Reads board (s .floor .buckets) index → (w : Worker) → hallRetire board index s w ≡ retireCall board s w
 unfolding hallRetire retireCall
 retire-same {board} s reads w = ap (λ (n : ℕ). retired n (s .floor) board w) (retire-same-number (s .floor) reads (s .listed) (s .worker) w)
-
--- a board that is as long as one that fits the floor fits it too
-fits-still : (f : Floor) (board later : List ℕ) → Right f board → length later ≡ length board → Right f later
-fits-still f board later fits long =
-    record {
-      some-worker = fits .some-worker;
-      workers = fits .workers;
-      some-bucket = fits .some-bucket;
-      buckets = fits .buckets;
-      words = long ∙ fits .words;
-    }
 
 -- a run that is not refused as a whole is on a board that fits the floor
 run-fits : (f : Floor) (board : List ℕ) (listed : ℕ) (turns : List ℕ) → runNumber f board listed turns ≡ 0 → Right f board

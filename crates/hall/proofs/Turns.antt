@@ -30,7 +30,7 @@ Followable index b before after =
 
 module _ (board index : List ℕ) (s : Seat) (w : Worker) where
   abbrev pub sizes : ℕ
-  sizes = sizesNumber (s .floor) board index (s .listed) (s .worker) w
+  sizes = sizesNumber (s .floor) board index (s .listed)
 
   abbrev number : ℕ
   number = turnNumber (s .floor) board (s .listed) (s .worker) w
@@ -43,7 +43,7 @@ module _ (board index : List ℕ) (s : Seat) (w : Worker) where
 
   module _ (sized : sizes ≡ 0) where
     pub both : (length index ≡ 5) × Right (s .floor) board
-    both = right-both (s .floor) board index (s .listed) (s .worker) w sized
+    both = right-both (s .floor) board index (s .listed) sized
 
     abbrev fits : Right (s .floor) board
     fits = both .1
