@@ -77,6 +77,21 @@ desk_plan some_plan(chance *c) {
     return plan;
 }
 
+/* how many the second board is to have; of those that there cannot be some would fit if they were cut to 32 bits or to 8, or eight times of
+   them go over 64 bits */
+size_t some_buckets(chance *c) {
+    if (now_and_then(c, 5)) return ONE_OF(c, 0, MOST_BUCKETS + 1, 0x10000, 0x100000002, 0x2000000000000001, UINT64_MAX);
+    if (now_and_then(c, 25)) return ONE_OF(c, 16, 63, 64, 65, 128, 129, 192, 193, 255, MOST_BUCKETS);
+    return 1 + below(c, 12);
+}
+
+/* mostly eight words for each; and no more than there is room for */
+size_t words_for(chance *c, size_t buckets) {
+    size_t words = BUCKET_WORDS * buckets;
+    if (now_and_then(c, 4)) words += ONE_OF(c, 1, 8, (uint64_t)-1, (uint64_t)-8);
+    return words <= ROOM_WORDS ? words : below(c, ROOM_WORDS);
+}
+
 /* ---- boards, records and indexes */
 
 void fill_with_anything(chance *c, hall *h) {
@@ -85,6 +100,7 @@ void fill_with_anything(chance *c, hall *h) {
         h->records[i] = (desk_worker){
             .kind = 9, .place = 99, .key = any(c), .ticket = 9, .slot = 9, .word = any(c), .held = 9, .seen = i, .asleep = 9};
     for (size_t i = 0; i < ROOM_INDEX; i++) h->index[i] = any(c);
+    for (size_t i = 0; i < ROOM_WORDS; i++) h->second[i] = any(c);
 }
 
 uint64_t some_word(chance *c) {
@@ -188,7 +204,8 @@ void true_index(hall *h) {
 }
 
 void any_hall(chance *c, hall *h) {
-    h->floor = (desk_floor){.workers = 1 + below(c, 5), .buckets = ONE_OF(c, 1, 1, 2, 3), .last = (uint32_t)ONE_OF(c, 0, 7, 0xffffffff)};
+    h->floor = (desk_floor){.workers = 1 + below(c, 5), .buckets = ONE_OF(c, 1, 1, 2, 3), .last = (uint32_t)ONE_OF(c, 0, 7, 0xffffffff),
+        .version = some_version(c)};
     if (now_and_then(c, 6)) h->floor.buckets = ONE_OF(c, 64, 65, 130, 193, MOST_BUCKETS);
     h->words = BUCKET_WORDS * h->floor.buckets;
     h->listed = h->floor.workers;
@@ -200,6 +217,42 @@ void any_hall(chance *c, hall *h) {
     true_index(h);
     for (size_t i = INDEX_WORDS; i < ROOM_INDEX; i++) h->index[i] = any(c);
     while (now_and_then(c, 30)) spoil_index(c, h);
+    for (size_t i = 0; i < ROOM_WORDS; i++) h->second[i] = any(c);
+}
+
+/* a bucket with so many of a hundred slots valid and none that is being inserted; lots are any, so that they scatter over boards of any size */
+static void settled_bucket(chance *c, uint64_t *bucket, uint64_t percent) {
+    bucket[0] = some_version(c);
+    for (size_t slot = 0; slot < SLOTS; slot++) {
+        if (now_and_then(c, percent)) bucket[0] |= (uint64_t)DESK_MARK_VALID << (32 + 8 * slot);
+        bucket[1 + slot] = ONE_OF(c, any(c), below(c, 1000), 0);
+        bucket[4 + slot] = ONE_OF(c, any(c), below(c, 4));
+    }
+    bucket[7] = 0;
+}
+
+/* a board of another size, mostly with few lots, as they would have no room elsewhere */
+void bring_to_rest(chance *c, hall *h) {
+    uint64_t percent = ONE_OF(c, 0, 1, 4, 20, 60, 100);
+    h->floor.buckets = now_and_then(c, 60) ? 1 + below(c, 12) : ONE_OF(c, 63, 64, 65, 128, 193, 255, MOST_BUCKETS);
+    h->words = BUCKET_WORDS * h->floor.buckets;
+    for (size_t i = 0; i < h->floor.buckets; i++) settled_bucket(c, h->board + BUCKET_WORDS * i, percent);
+    for (size_t i = 0; i < h->listed; i++) h->records[i] = (desk_worker){.held = HOLDS_NONE};
+    if (now_and_then(c, 50)) true_index(h);
+}
+
+/* something that keeps a hall from moving, or by chance not: a record, a mark that is being inserted, or a bucket */
+void spoil_rest(chance *c, hall *h) {
+    uint64_t *bucket = h->board + BUCKET_WORDS * below(c, h->floor.buckets);
+    desk_worker *w = &h->records[below(c, h->listed)];
+    switch (below(c, 6)) {
+    case 0:
+    case 1: *w = any_record(c, h); break;
+    case 2: spoil(c, w); break;
+    case 3:
+    case 4: bucket[0] |= (uint64_t)DESK_MARK_INSERTING << (32 + 8 * below(c, SLOTS)); break;
+    default: any_bucket(c, bucket, h->floor.buckets); break;
+    }
 }
 
 /* one size that is wrong, or by chance two that agree; eight times some of these N go over 64 bits and come to a right size again */

@@ -18,6 +18,8 @@ uint32_t next_ticket(chance *c, uint32_t last);
 size_t some_depth(chance *c, const hall *h);
 size_t some_from(chance *c, size_t buckets);
 desk_plan some_plan(chance *c);
+size_t some_buckets(chance *c);
+size_t words_for(chance *c, size_t buckets);
 
 /* parts of a board and of a record */
 uint64_t some_word(chance *c);
@@ -25,10 +27,13 @@ uint64_t broken_word(chance *c);
 void any_bucket(chance *c, uint64_t *bucket, size_t buckets);
 uint32_t some_sleep(chance *c);
 
-/* whole halls: what an opening finds; one whose sizes fit, with buckets, records and an index of any kind; and faults of it */
+/* whole halls: what an opening finds; one whose sizes fit, with buckets, records and an index of any kind; wrong sizes of it; one that is at
+   rest, so that it can move wherever its lots have room; and what keeps it from moving */
 void fill_with_anything(chance *c, hall *h);
 void any_hall(chance *c, hall *h);
 void spoil_sizes(chance *c, hall *h);
+void bring_to_rest(chance *c, hall *h);
+void spoil_rest(chance *c, hall *h);
 
 /* the index that tells of the board, and one thing in it made wrong */
 void true_index(hall *h);

@@ -17,10 +17,10 @@ bool met_everything(void) {
 /* ---- answers */
 
 static const char *const answer_names[CALLS][MOST_NUMBERS] = {
-    [OPEN] = {"refusal", "workers", "buckets", "last"},
-    [START_LOOK] = {"refusal", "workers", "buckets", "last"},
-    [START_INSERT] = {"refusal", "workers", "buckets", "last"},
-    [START_REMOVE] = {"refusal", "workers", "buckets", "last"},
+    [OPEN] = {"refusal", "workers", "buckets", "last", "version"},
+    [START_LOOK] = {"refusal", "workers", "buckets", "last", "version"},
+    [START_INSERT] = {"refusal", "workers", "buckets", "last", "version"},
+    [START_REMOVE] = {"refusal", "workers", "buckets", "last", "version"},
     [TURN] = {"refusal", "action", "ended", "full", "answer", "bucket", "before", "after"},
     [RUN] = {"stop", "turns", "changes", "lost", "full", "last action", "last ended", "last full", "last answer", "last bucket",
         "last before", "last after"},
@@ -30,12 +30,13 @@ static const char *const answer_names[CALLS][MOST_NUMBERS] = {
     [RETIRE] = {"refusal"},
     [TOTAL] = {"refusal", "total"},
     [NEXT] = {"refusal", "found", "bucket"},
+    [MOVE] = {"refusal", "workers", "buckets", "last", "version"},
 };
 
 /* the caller passes the floor on that was handed back, so what is in the hall is also compared */
 static answer of_outcome(hall *h, desk_outcome o) {
     h->floor = o.floor;
-    return (answer){{o.refusal, o.floor.workers, o.floor.buckets, o.floor.last}};
+    return (answer){{o.refusal, o.floor.workers, o.floor.buckets, o.floor.last, o.floor.version}};
 }
 
 static answer of_turn(desk_turn_outcome t) {
@@ -69,6 +70,22 @@ static answer retire(const side *s, hall *h, size_t worker) {
     return (answer){{s->retire(h->board, h->words, h->records, h->listed, h->index, h->entries, h->floor, worker)}};
 }
 
+/* the hall goes on on the board that it has moved to, and the old one is lent the next time */
+static void change_boards(hall *h, size_t words) {
+    static uint64_t old[ROOM_WORDS];
+    memcpy(old, h->board, sizeof old);
+    memcpy(h->board, h->second, sizeof old);
+    memcpy(h->second, old, sizeof old);
+    h->words = words;
+}
+
+static answer move(const side *s, hall *h, size_t words, size_t buckets) {
+    answer a = of_outcome(h,
+        s->move(h->board, h->words, h->second, words, h->records, h->listed, h->index, h->entries, h->floor, buckets));
+    if (a.number[0] == 0) change_boards(h, words);
+    return a;
+}
+
 static answer show(const side *s, const hall *h, uint64_t lot) {
     desk_part part = s->show(h->board, h->words, h->floor, lot);
     return (answer){{s->show_refusal(h->board, h->words, h->floor, lot), part.start, part.words}};
@@ -91,7 +108,8 @@ static answer make_on(const side *s, hall *h, const call *c) {
     case ORDERS: return of_orders(s->orders(board, words, records, listed, h->floor, c->depth));
     case RETIRE: return retire(s, h, c->worker);
     case TOTAL: return of_total(s->total(board, words, index, entries, h->floor));
-    default: return of_next(s->next_occupied(board, words, index, entries, h->floor, c->from));
+    case NEXT: return of_next(s->next_occupied(board, words, index, entries, h->floor, c->from));
+    default: return move(s, h, c->words, c->buckets);
     }
 }
 
@@ -126,16 +144,21 @@ static size_t least(size_t a, size_t b) {
     return a < b ? a : b;
 }
 
+static void compare_words(const char *name, const uint64_t *desk, const uint64_t *plain, size_t words) {
+    if (memcmp(desk, plain, words * sizeof desk[0]) == 0) return;
+    for (size_t i = 0; i < words; i++) compare_number(name, i, desk[i], plain[i]);
+}
+
 /* what is lent, and what stands next to it */
 static void compare_halls(const hall *desk, const hall *plain) {
     size_t words = least(desk->words + SPARE_WORDS, ROOM_WORDS), listed = least(desk->listed + SPARE_RECORDS, ROOM_RECORDS);
-    if (memcmp(desk->board, plain->board, words * sizeof desk->board[0]) != 0)
-        for (size_t i = 0; i < words; i++) compare_number("word", i, desk->board[i], plain->board[i]);
+    compare_words("word", desk->board, plain->board, words);
     for (size_t i = 0; i < listed; i++) compare_records(i, &desk->records[i], &plain->records[i]);
     for (size_t i = 0; i < ROOM_INDEX; i++) compare_number("word of the index", i, desk->index[i], plain->index[i]);
     compare_number("workers of the floor", 0, desk->floor.workers, plain->floor.workers);
     compare_number("buckets of the floor", 0, desk->floor.buckets, plain->floor.buckets);
     compare_number("last of the floor", 0, desk->floor.last, plain->floor.last);
+    compare_number("version of the floor", 0, desk->floor.version, plain->floor.version);
 }
 
 /* of an opened board, in the place of what the engine by hand has: the index that the board comes to, the answers that it gives itself to
@@ -155,8 +178,9 @@ static void stop_at_difference(const pair *p, const call *c) {
     const hall *h = &p->desk;
     printf("seed %lu, history %lu, call %lu: %s\n", the_seed, the_history, compared, call_names[c->which]);
     printf("  on %lu words, %lu records and an index of %lu; worker %#lx, lot %#lx, ticket %#x, %lu turns, depth %#lx, from %#lx, plan of "
-           "%#lx workers and %#lx buckets\n",
-        h->words, h->listed, h->entries, c->worker, c->lot, c->ticket, c->count, c->depth, c->from, c->plan.workers, c->plan.buckets);
+           "%#lx workers and %#lx buckets, a second board of %#lx words and %#lx buckets\n",
+        h->words, h->listed, h->entries, c->worker, c->lot, c->ticket, c->count, c->depth, c->from, c->plan.workers, c->plan.buckets, c->words,
+        c->buckets);
     fflush(0);
     exit(1);
 }
@@ -167,7 +191,7 @@ void begin(pair *p, uint64_t seed, uint64_t history) {
     the_seed = seed;
     the_history = history;
     histories++;
-    p->opened = false;
+    p->opened = p->moved = false;
     memcpy(&p->plain, &p->desk, sizeof p->plain);
 }
 
@@ -180,7 +204,12 @@ uint8_t make(pair *p, const call *c) {
         compare_answers(c->which, &desk, &fastest);
     }
     compare_halls(&p->desk, &p->plain);
-    if (c->which == OPEN && desk.number[0] == 0) p->opened = true;
+    if (c->which == MOVE) {
+        compare_words("word of a board in a move", p->desk.board, p->plain.board, ROOM_WORDS);
+        compare_words("word of the other board", p->desk.second, p->plain.second, ROOM_WORDS);
+    }
+    f.moved = p->moved;
+    if ((c->which == OPEN || c->which == MOVE) && desk.number[0] == 0) p->opened = true, p->moved = c->which == MOVE;
     if (p->opened) compare_with_board(&p->desk, c, &desk);
     stop_at_difference(p, c);
     compared++;

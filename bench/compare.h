@@ -5,7 +5,7 @@
 
 #include "side.h"
 
-typedef enum { OPEN, START_LOOK, START_INSERT, START_REMOVE, TURN, RUN, SHOW, COUNT, ORDERS, RETIRE, TOTAL, NEXT, CALLS } which;
+typedef enum { OPEN, START_LOOK, START_INSERT, START_REMOVE, TURN, RUN, SHOW, COUNT, ORDERS, RETIRE, TOTAL, NEXT, MOVE, CALLS } which;
 
 /* each call takes of these what it needs */
 typedef struct {
@@ -18,13 +18,14 @@ typedef struct {
     size_t count;
     size_t depth;
     size_t from;
+    size_t buckets, words; /* of the second board */
 } call;
 
-/* a hall of the proved library's and one of the engine's by hand, which begin the same; and whether they have been opened, and nothing but
-   calls was done to them since */
+/* a hall of the proved library's and one of the engine's by hand, which begin the same; whether they have been opened, or have moved, and
+   nothing but calls was done to them since; and whether their board is one that they moved to */
 typedef struct {
     hall desk, plain;
-    bool opened;
+    bool opened, moved;
 } pair;
 
 /* begins a history: from here on the second hall is the first's twin */

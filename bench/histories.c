@@ -1,11 +1,13 @@
 /* Random histories, the same ones for the same seed: those of an opened board, which go deep; those of any board, any records and any
-   index, with every kind of fault; every record, as far as its small fields go; the longest runs; two short calls to every depth; every
-   index, as far as it concerns one bucket, and every length of it; and every question of the display. */
+   index, with every kind of fault; those of a hall at rest, which moves; every record, as far as its small fields go; the longest runs; two
+   short calls to every depth; every index, as far as it concerns one bucket, and every length of it; every question of the display; and moves
+   from every size to every size. */
 #include "histories.h"
 #include "chances.h"
 #include "compare.h"
 
-enum { OPENED_HISTORIES = 1500, OPENED_CALLS = 90, WILD_HISTORIES = 6000, WILD_CALLS = 8, ROOM_TURNS = MOST_TURNS + 5 };
+enum { OPENED_HISTORIES = 1500, OPENED_CALLS = 90, WILD_HISTORIES = 6000, WILD_CALLS = 8, RESTING_HISTORIES = 3000, RESTING_CALLS = 5 };
+enum { ROOM_TURNS = MOST_TURNS + 5, MOST_ALONE = 13 };
 
 static pair halls;
 static uint8_t turns[ROOM_TURNS];
@@ -44,8 +46,24 @@ static void retire_some(chance *c) {
     make(&halls, &(call){.which = RETIRE, .worker = worker});
 }
 
+/* everybody's call is played to its end; whoever comes to none as one does who is alone is retired */
+static void end_round(void) {
+    const hall *h = &halls.desk;
+    for (size_t worker = 0; worker < h->listed; worker++) {
+        for (size_t i = 0; i < MOST_ALONE && h->records[worker].kind != IDLE; i++) make(&halls, &(call){.which = TURN, .worker = worker});
+        if (h->records[worker].kind != IDLE) make(&halls, &(call){.which = RETIRE, .worker = worker});
+    }
+}
+
+/* mostly between two rounds */
+static void move_some(chance *c) {
+    size_t buckets = some_buckets(c);
+    if (now_and_then(c, 70)) end_round();
+    make(&halls, &(call){.which = MOVE, .buckets = buckets, .words = words_for(c, buckets)});
+}
+
 static void call_some(chance *c) {
-    uint64_t pick = below(c, 100);
+    uint64_t pick = below(c, 103);
     if (pick < 29) start_some(c);
     else if (pick < 63) turn_some(c);
     else if (pick < 84) run_some(c);
@@ -54,7 +72,8 @@ static void call_some(chance *c) {
     else if (pick < 91) make(&halls, &(call){.which = COUNT});
     else if (pick < 93) make(&halls, &(call){.which = TOTAL});
     else if (pick < 96) make(&halls, &(call){.which = NEXT, .from = some_from(c, halls.desk.floor.buckets)});
-    else make(&halls, &(call){.which = ORDERS, .depth = some_depth(c, &halls.desk)});
+    else if (pick < 100) make(&halls, &(call){.which = ORDERS, .depth = some_depth(c, &halls.desk)});
+    else move_some(c);
 }
 
 /* from here on the index is one that no call left */
@@ -72,7 +91,7 @@ static void opened_history(chance *c, uint64_t seed, uint64_t history) {
     h->words = BUCKET_WORDS * open.plan.buckets;
     h->listed = open.plan.workers;
     h->entries = INDEX_WORDS;
-    h->floor = (desk_floor){.workers = any(c), .buckets = any(c), .last = (uint32_t)any(c)};
+    h->floor = (desk_floor){.workers = any(c), .buckets = any(c), .last = (uint32_t)any(c), .version = (uint32_t)any(c)};
     begin(&halls, seed, history);
     make(&halls, &open);
     size_t spoilt = below(c, 4 * OPENED_CALLS);
@@ -87,7 +106,7 @@ static void opened_history(chance *c, uint64_t seed, uint64_t history) {
 static call any_call(chance *c, const hall *h) {
     call made = {.turns = turns};
     made.which = (which)ONE_OF(c, START_LOOK, START_INSERT, START_REMOVE, TURN, TURN, TURN, RUN, RUN, SHOW, COUNT, ORDERS, ORDERS, RETIRE,
-        RETIRE, TOTAL, NEXT, NEXT);
+        RETIRE, TOTAL, NEXT, NEXT, MOVE);
     if (now_and_then(c, 4)) made.which = OPEN;
     made.plan = (desk_plan){.workers = h->floor.workers, .buckets = h->floor.buckets, .version = some_version(c)};
     if (now_and_then(c, 50)) made.plan = some_plan(c);
@@ -97,6 +116,8 @@ static call any_call(chance *c, const hall *h) {
     made.count = below(c, 12);
     made.depth = some_depth(c, h);
     made.from = some_from(c, h->floor.buckets);
+    made.buckets = some_buckets(c);
+    made.words = words_for(c, made.buckets);
     for (size_t i = 0; i < made.count; i++) turns[i] = (uint8_t)some_worker(c, h->floor.workers);
     if (now_and_then(c, 3)) made.count = ONE_OF(c, MOST_TURNS, MOST_TURNS + 1, ROOM_TURNS);
     return made;
@@ -112,8 +133,24 @@ static void wild_history(chance *c, uint64_t seed, uint64_t history) {
     }
 }
 
-/* ---- every record, as far as its small fields go: all orders, a turn, a retiring, a turn of another beside it, and then a start on the
-   same */
+/* ---- histories of a hall at rest, or nearly so: it moves, and what is called afterwards may keep it from moving again */
+
+static void resting_history(chance *c, uint64_t seed, uint64_t history) {
+    hall *h = &halls.desk;
+    any_hall(c, h);
+    bring_to_rest(c, h);
+    while (now_and_then(c, 30)) spoil_rest(c, h);
+    if (now_and_then(c, 8)) spoil_sizes(c, h);
+    begin(&halls, seed, history);
+    for (size_t i = 0; i < RESTING_CALLS; i++) {
+        call made = any_call(c, h);
+        if (i % 2 == 0) made.which = MOVE;
+        make(&halls, &made);
+    }
+}
+
+/* ---- every record, as far as its small fields go: all orders, a turn, a retiring, a turn of another beside it, a start on the same, and a
+   move beside another that is idle */
 
 /* the other one looks */
 static void put_record(desk_worker w) {
@@ -136,6 +173,10 @@ static void try_record(chance *c, desk_worker w) {
     put_record(w);
     make(&halls, &(call){.which = TURN, .worker = 1});
     make(&halls, &(call){.which = START_REMOVE, .worker = 0, .lot = 5});
+    put_record(w);
+    halls.desk.records[1] = halls.plain.records[1] = (desk_worker){.held = HOLDS_NONE};
+    make(&halls, &(call){.which = MOVE, .buckets = 1, .words = BUCKET_WORDS});
+    halls.opened = halls.moved = false;
 }
 
 static void every_record(chance *c, uint64_t seed, uint64_t history) {
@@ -203,7 +244,7 @@ static const size_t boards[BOARDS] = {1, 2, 63, 64, 65, 128, 129, 192, 193, 255,
 
 static void put_hall(const hall *h) {
     halls.desk = halls.plain = *h;
-    halls.opened = false;
+    halls.opened = halls.moved = false;
 }
 
 /* Of one bucket three know the word: the first is to commit a slot or to give it back, the second to close one, and the third holds one and
@@ -273,6 +314,7 @@ static void every_length(chance *c, uint64_t seed, uint64_t history) {
                 put_hall(&h);
                 call made = {.which = w, .worker = 2, .lot = 5, .ticket = 10, .turns = turns, .count = 1, .depth = 2};
                 made.plan = (desk_plan){.workers = CREW, .buckets = boards[board]};
+                made.buckets = boards[board], made.words = BUCKET_WORDS * boards[board];
                 turns[0] = 3;
                 make(&halls, &made);
             }
@@ -298,18 +340,68 @@ static void every_question(chance *c, uint64_t seed, uint64_t history) {
         }
 }
 
+/* ---- every size to every size and back, with the first so many lots: none, as many as the smaller board has slots, and one more; and a
+   turn or two on each */
+
+static void set_resting_hall(hall *h, size_t buckets, size_t lots) {
+    h->floor.buckets = buckets;
+    h->words = BUCKET_WORDS * buckets;
+    for (size_t i = 0; i < h->words; i++) h->board[i] = i % BUCKET_WORDS == 0 ? h->floor.version + (uint32_t)i : 0;
+    for (size_t lot = 0; lot < lots; lot++) {
+        uint64_t *bucket = h->board + BUCKET_WORDS * (lot % buckets);
+        bucket[0] |= (uint64_t)DESK_MARK_VALID << (32 + 8 * (lot / buckets));
+        bucket[1 + lot / buckets] = lot;
+        bucket[4 + lot / buckets] = 1 + lot;
+    }
+    for (size_t i = 0; i < h->listed; i++) h->records[i] = (desk_worker){.held = HOLDS_NONE};
+    true_index(h);
+}
+
+static void move_all(size_t buckets) {
+    make(&halls, &(call){.which = MOVE, .buckets = buckets, .words = BUCKET_WORDS * buckets});
+}
+
+static void move_and_back(chance *c, size_t from, size_t to) {
+    move_all(to);
+    make(&halls, &(call){.which = START_REMOVE, .worker = 0, .lot = below(c, SLOTS * from)});
+    make(&halls, &(call){.which = TURN, .worker = 0});
+    move_all(from);
+    make(&halls, &(call){.which = RETIRE, .worker = 0});
+    move_all(from);
+}
+
+static void every_move(chance *c, uint64_t seed, uint64_t history) {
+    static hall h;
+    any_hall(c, &h);
+    begin(&halls, seed, history);
+    for (size_t from = 0; from < BOARDS; from++)
+        for (size_t to = 0; to < BOARDS; to++) {
+            size_t slots = SLOTS * boards[from < to ? from : to];
+            const size_t lots[] = {0, slots, slots + 1};
+            for (size_t i = 0; i < 3; i++) {
+                if (lots[i] > SLOTS * boards[from]) continue;
+                h.floor.version = some_version(c);
+                set_resting_hall(&h, boards[from], lots[i]);
+                put_hall(&h);
+                move_and_back(c, boards[from], boards[to]);
+            }
+        }
+}
+
 /* ---- all of them */
 
-enum { DIRECTED = 6 };
+enum { DIRECTED = 7 };
 
 bool compare_histories(uint64_t seed) {
     static void (*const directed[DIRECTED])(chance *, uint64_t seed, uint64_t history) = {every_record, longest_runs, every_depth,
-        every_index, every_length, every_question};
-    for (uint64_t history = 0; history < OPENED_HISTORIES + WILD_HISTORIES + DIRECTED; history++) {
+        every_index, every_length, every_question, every_move};
+    enum { WILD = OPENED_HISTORIES, RESTING = WILD + WILD_HISTORIES, FIRST_DIRECTED = RESTING + RESTING_HISTORIES };
+    for (uint64_t history = 0; history < FIRST_DIRECTED + DIRECTED; history++) {
         chance c = {.state = seed * 0x100000000 + history};
-        if (history < OPENED_HISTORIES) opened_history(&c, seed, history);
-        else if (history < OPENED_HISTORIES + WILD_HISTORIES) wild_history(&c, seed, history);
-        else directed[history - OPENED_HISTORIES - WILD_HISTORIES](&c, seed, history);
+        if (history < WILD) opened_history(&c, seed, history);
+        else if (history < RESTING) wild_history(&c, seed, history);
+        else if (history < FIRST_DIRECTED) resting_history(&c, seed, history);
+        else directed[history - FIRST_DIRECTED](&c, seed, history);
     }
     return met_everything();
 }

@@ -1,11 +1,12 @@
 #include "met.h"
+#include "reading.h"
 #include <stdio.h>
 #include <string.h>
 
 const char *const call_names[CALLS] = {"open", "start look", "start insert", "start remove", "turn", "run", "show", "count",
-    "orders", "retire", "total", "next"};
+    "orders", "retire", "total", "next", "move"};
 
-enum { REFUSALS = DESK_UNTRUE_INDEX + 1, NO_MORE = REFUSALS };
+enum { REFUSALS = DESK_CROWDED_BUCKET + 1, NO_MORE = REFUSALS };
 
 /* the numbers that each call gives, 0 for a call that is accepted */
 static const unsigned call_refusals[CALLS][REFUSALS + 1] = {
@@ -21,6 +22,7 @@ static const unsigned call_refusals[CALLS][REFUSALS + 1] = {
     [RETIRE] = {0, 1, 2, 3, 6, 7, 11, NO_MORE},
     [TOTAL] = {0, 1, NO_MORE},
     [NEXT] = {0, 1, NO_MORE},
+    [MOVE] = {0, 1, 3, 7, 12, 13, NO_MORE},
 };
 
 static unsigned long met[CALLS][REFUSALS], places[LAST_PLACE + 1], changes, lost, full;
@@ -60,6 +62,18 @@ static unsigned long followed[CALLS][WAYS], followed_in[INDEX_WORDS];
 /* totals that no board has; next buckets, by how many words on they were found, and those found past a bit of the same word that is not
    asked for; and none, from past the last bucket and from before it, and where a bit past the last is set */
 static unsigned long too_great, words_on[INDEX_WORDS - 1], passed, none_beyond, none_within, none_but_unused;
+
+/* moves that were done: to more buckets, to fewer and to as many; whose index was untrue of the old board; whose old board had a bucket of
+   another version than the floor's; and by the lots that a new bucket has, the new buckets */
+enum { TO_MORE, TO_FEWER, TO_AS_MANY, SIZINGS };
+static unsigned long sized[SIZINGS], mended, of_other_versions, new_buckets[SLOTS + 1];
+
+/* moves that were refused: for nothing but the new N, for nothing but the length of the new board, and for a mark of 2 where no bucket is
+   broken; and by the number, where a later one would have applied too */
+static unsigned long wrong_buckets, wrong_words, inserting, before_others[REFUSALS][REFUSALS];
+
+/* calls of each kind that were accepted on a board to which the hall had moved */
+static unsigned long on_moved[CALLS];
 
 static bool missing(const char *what, unsigned number, unsigned long times) {
     if (times == 0) printf("never met: %s %u\n", what, number);
@@ -105,7 +119,7 @@ static bool lacks_indexes(which w) {
 }
 
 static bool lacks_lengths(void) {
-    static const which calls[] = {OPEN, TURN, RUN, RETIRE, TOTAL, NEXT};
+    static const which calls[] = {OPEN, TURN, RUN, RETIRE, TOTAL, NEXT, MOVE};
     bool lacks = false;
     for (size_t i = 0; i < sizeof calls / sizeof calls[0]; i++) {
         lacks |= missing("refused for a short index a call of", calls[i], too_short[calls[i]]);
@@ -135,6 +149,30 @@ static bool lacks_display(void) {
     return lacks;
 }
 
+/* the order of a move's numbers (§7.2) */
+enum { MOVE_NUMBERS = 5 };
+static const unsigned move_order[MOVE_NUMBERS] = {DESK_WRONG_SIZES, DESK_BROKEN_RECORD, DESK_NOT_AT_REST, DESK_BROKEN_BUCKET,
+    DESK_CROWDED_BUCKET};
+
+static bool lacks_moves(void) {
+    bool lacks = false;
+    for (unsigned i = 0; i < MOVE_NUMBERS; i++)
+        for (unsigned j = i + 1; j < MOVE_NUMBERS; j++) {
+            unsigned long times = before_others[move_order[i]][move_order[j]];
+            if (times == 0) printf("never met: a move that %u refuses, where %u would have\n", move_order[i], move_order[j]);
+            lacks |= times == 0;
+        }
+    for (unsigned sizing = 0; sizing < SIZINGS; sizing++) lacks |= missing("a move to a size of kind", sizing, sized[sizing]);
+    for (unsigned lots = 0; lots <= SLOTS; lots++) lacks |= missing("a new bucket with so many lots:", lots, new_buckets[lots]);
+    lacks |= missing("moves with an untrue index over", 0, mended);
+    lacks |= missing("moves from another version over", 0, of_other_versions);
+    lacks |= missing("moves refused for the new number of buckets alone over", 0, wrong_buckets);
+    lacks |= missing("moves refused for the new board's words alone over", 0, wrong_words);
+    lacks |= missing("moves refused for a mark of 2 alone over", 0, inserting);
+    for (which w = OPEN; w < CALLS; w++) lacks |= missing("accepted after a move a call of", w, on_moved[w]);
+    return lacks;
+}
+
 bool lacks_something(void) {
     bool lacks = false;
     for (size_t i = 0; i < CALLS; i++)
@@ -156,6 +194,7 @@ bool lacks_something(void) {
     lacks |= lacks_retirings();
     lacks |= lacks_sleepers();
     lacks |= lacks_display();
+    lacks |= lacks_moves();
     return lacks;
 }
 
@@ -181,7 +220,7 @@ static void note_orders(const hall *h, const answer *a) {
 }
 
 found find(const hall *h, const call *c) {
-    found f = {.worker = {.held = HOLDS_NONE}};
+    found f = {.worker = {.held = HOLDS_NONE}, .floor = h->floor};
     if (c->worker < h->listed) f.worker = h->records[c->worker];
     size_t bucket = desk_bucket(f.worker.key, h->floor.buckets);
     if (bucket < MOST_BUCKETS) {
@@ -305,6 +344,7 @@ static void note_lengths(const call *c, const hall *h) {
     size_t workers = c->which == OPEN ? c->plan.workers : h->floor.workers, buckets = c->which == OPEN ? c->plan.buckets : h->floor.buckets;
     if (!within(workers, MOST_WORKERS) || !within(buckets, MOST_BUCKETS) || h->words != BUCKET_WORDS * buckets) return;
     if (c->which != TOTAL && c->which != NEXT && h->listed != workers) return;
+    if (c->which == MOVE && !(within(c->buckets, MOST_BUCKETS) && c->words == BUCKET_WORDS * c->buckets)) return;
     too_short[c->which] += h->entries < INDEX_WORDS;
     too_long[c->which] += h->entries > INDEX_WORDS;
 }
@@ -323,10 +363,80 @@ static void note_display(const call *c, const hall *h, const answer *a, const fo
     if (c->which == NEXT) note_next(c->from, buckets, h->index, a);
 }
 
+/* ---- of a move */
+
+static bool any_broken(const uint64_t *board, size_t buckets) {
+    for (size_t i = 0; i < buckets; i++)
+        if (marks_are_broken(board[BUCKET_WORDS * i]) || board[BUCKET_WORDS * i + DESK_AT_SPARE] != 0) return true;
+    return false;
+}
+
+static bool any_inserting(const uint64_t *board, size_t buckets) {
+    for (size_t i = 0; i < SLOTS * buckets; i++)
+        if (desk_mark(board[BUCKET_WORDS * (i / SLOTS)], i % SLOTS) == DESK_MARK_INSERTING) return true;
+    return false;
+}
+
+/* whether more lots come to a new bucket than it has slots */
+static bool any_crowded(const uint64_t *board, size_t buckets, size_t to) {
+    size_t lots[MOST_BUCKETS] = {0};
+    for (size_t i = 0; i < SLOTS * buckets; i++) {
+        const uint64_t *bucket = board + BUCKET_WORDS * (i / SLOTS);
+        if (desk_mark(bucket[0], i % SLOTS) == DESK_MARK_VALID && ++lots[desk_key(bucket, i % SLOTS) % to] > SLOTS) return true;
+    }
+    return false;
+}
+
+/* whether a record gives this number to a start, which tells what it is */
+static bool any_record_is(const hall *h, uint8_t number) {
+    for (size_t i = 0; i < h->listed; i++)
+        if (refused_start(h->records[i]) == number) return true;
+    return false;
+}
+
+/* which numbers would have applied, where the old board's sizes are right and the new N is one that there can be */
+static void note_order(const call *c, const hall *h, uint64_t refusal) {
+    bool applies[REFUSALS] = {false};
+    applies[DESK_BROKEN_RECORD] = any_record_is(h, DESK_BROKEN_RECORD);
+    applies[DESK_NOT_AT_REST] = any_record_is(h, DESK_BUSY_WORKER);
+    applies[DESK_BROKEN_BUCKET] = any_broken(h->board, h->floor.buckets) || any_inserting(h->board, h->floor.buckets);
+    applies[DESK_CROWDED_BUCKET] = any_crowded(h->board, h->floor.buckets, c->buckets);
+    for (size_t i = 0; i < REFUSALS; i++) before_others[refusal][i] += applies[i];
+    inserting += refusal == DESK_BROKEN_BUCKET && !any_broken(h->board, h->floor.buckets);
+}
+
+/* of one that is refused, so that the board is the old one still */
+static void note_refused_move(const call *c, const hall *h, uint64_t refusal) {
+    const desk_floor *floor = &h->floor;
+    bool old_fits = within(floor->workers, MOST_WORKERS) && within(floor->buckets, MOST_BUCKETS) && h->listed == floor->workers &&
+        h->words == BUCKET_WORDS * floor->buckets;
+    bool fits = within(c->buckets, MOST_BUCKETS), filled = c->words == BUCKET_WORDS * c->buckets;
+    if (!old_fits) return;
+    if (fits) note_order(c, h, refusal);
+    wrong_buckets += !fits && filled && h->entries == INDEX_WORDS;
+    wrong_words += fits && !filled && h->entries == INDEX_WORDS;
+}
+
+/* of one that is done, so that the second board is the old one */
+static void note_done_move(const hall *h, const found *f) {
+    uint64_t index[INDEX_WORDS];
+    size_t old = f->floor.buckets, new = h->floor.buckets;
+    bool other = false;
+    sized[new > old ? TO_MORE : new < old ? TO_FEWER : TO_AS_MANY]++;
+    read_index(h->second, old, index);
+    mended += memcmp(index, f->index, sizeof index) != 0;
+    for (size_t i = 0; i < old; i++) other |= desk_version(h->second[BUCKET_WORDS * i]) != f->floor.version;
+    of_other_versions += other;
+    for (size_t i = 0; i < new; i++) new_buckets[valid_in(h->board[BUCKET_WORDS * i])]++;
+}
+
 void note(const call *c, const hall *h, const answer *a, const found *f) {
     unsigned place = f->worker.place;
     met[c->which][a->number[0] % REFUSALS]++;
+    on_moved[c->which] += f->moved && a->number[0] == 0;
     note_display(c, h, a, f);
+    if (c->which == MOVE && a->number[0] == 0) note_done_move(h, f);
+    if (c->which == MOVE && a->number[0] != 0) note_refused_move(c, h, a->number[0] % REFUSALS);
     if (c->which == ORDERS) note_orders(h, a);
     if (c->which == RETIRE && a->number[0] == 0) note_retiring(f);
     if (c->which == TURN) {

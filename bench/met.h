@@ -11,9 +11,12 @@ typedef struct {
     uint64_t number[MOST_NUMBERS];
 } answer;
 
-/* what a call finds: its worker's record, that one's bucket with its mark word and its spare word, all records, and the index */
+/* what a call finds: its worker's record, that one's bucket with its mark word and its spare word, all records, the index and the floor; and
+   whether the board is one to which the hall has moved */
 typedef struct {
     desk_worker worker;
+    desk_floor floor;
+    bool moved;
     size_t bucket;
     uint64_t word, spare;
     desk_worker records[ROOM_RECORDS];

@@ -161,6 +161,44 @@ static void last_scene(stage *g, size_t buckets, size_t workers) {
     tell_display(h);
 }
 
+/* as many buckets again, with a lot in each */
+static void move_scene(stage *g, size_t buckets, size_t workers) {
+    idle_scene(g, buckets, workers);
+    g->scenes[0].buckets = buckets;
+}
+
+/* so many lots, in the first slots of all buckets, then in the second ones, and so on */
+static void place_lots(hall *h, size_t buckets, size_t lots) {
+    fill_board(h, buckets, 0);
+    for (size_t lot = 0; lot < lots; lot++) {
+        uint64_t *bucket = h->board + BUCKET_WORDS * (lot % buckets);
+        size_t slot = lot / buckets;
+        bucket[0] = (bucket[0] | (uint64_t)DESK_MARK_VALID << (32 + 8 * slot)) + 1;
+        bucket[1 + slot] = lot;
+        bucket[4 + slot] = 1 + lot;
+    }
+    h->floor.last = (uint32_t)lots;
+    tell_display(h);
+}
+
+/* the same with 600 lots, where there are 256 buckets: two in each, and three in some */
+static void crowded_move_scene(stage *g, size_t buckets, size_t workers) {
+    move_scene(g, buckets, workers);
+    place_lots(&g->scenes[0].first, buckets, buckets * 600 / MOST_BUCKETS);
+}
+
+/* to one bucket, which has just room for three lots, and from it */
+static void shrinking_scene(stage *g, size_t buckets, size_t workers) {
+    move_scene(g, buckets, workers);
+    place_lots(&g->scenes[0].first, buckets, SLOTS);
+    g->scenes[0].buckets = 1;
+}
+
+static void growing_scene(stage *g, size_t buckets, size_t workers) {
+    move_scene(g, buckets, workers);
+    place_lots(&g->scenes[0].first, 1, SLOTS);
+}
+
 void reset(stage *g) {
     memcpy(&g->now, &g->scenes[0].first, sizeof g->now);
 }
@@ -256,6 +294,14 @@ static void repeat_open(const side *s, stage *g, size_t repeats) {
     desk_plan plan = {.workers = h->floor.workers, .buckets = h->floor.buckets, .version = 7};
     for (; repeats > 0; repeats--)
         if (s->open_floor) s->open_floor(h->board, h->words, h->records, h->listed, h->index, h->entries, h->floor, plan);
+}
+
+/* the floor that is handed back is not passed on, so each time the same board is moved */
+static void repeat_move(const side *s, stage *g, size_t repeats) {
+    hall *h = &g->now;
+    size_t to = g->scenes[0].buckets, words = BUCKET_WORDS * to;
+    for (; repeats > 0; repeats--)
+        if (s->move) s->move(h->board, h->words, h->second, words, h->records, h->listed, h->index, h->entries, h->floor, to);
 }
 
 static void repeat_show(const side *s, stage *g, size_t repeats) {
@@ -362,6 +408,10 @@ const operation operations[OPERATIONS] = {
     {"start-remove", "call", idle_scene, repeat_start_remove, one, 64, THREE_SIZES, 0},
     {"retire", "call", holders_scene, repeat_retire, one, 64, THREE_SIZES, 0},
     {"open", "call", idle_scene, repeat_open, one, 8, THREE_SIZES, 0},
+    {"move", "call", move_scene, repeat_move, one, 8, LARGEST_SIZE, 0},
+    {"move-600", "call", crowded_move_scene, repeat_move, one, 8, LARGEST_SIZE, 0},
+    {"move-to-1", "call", shrinking_scene, repeat_move, one, 8, LARGEST_SIZE, 0},
+    {"move-from-1", "call", growing_scene, repeat_move, one, 8, LARGEST_SIZE, 0},
     {"empty-run", "call", idle_scene, repeat_run, one, 64, THREE_SIZES, 0},
     {"count", "call", idle_scene, repeat_count, one, 8, THREE_SIZES, 0},
     {"show", "call", idle_scene, repeat_show, one, 64, THREE_SIZES, 0},

@@ -7,12 +7,13 @@
 /* An insert on a full bucket goes round in ten turns: with any number of workers here, so many turns leave each where it stood. */
 enum { WHOLE_ROUNDS = 10 * MOST_WORKERS, LONG_RUN = 6 * WHOLE_ROUNDS, SHORT_RUN = 8, SCENES = 3 };
 
-/* a hall as it stands before, and a run of turns on it, or the depth to which its orders are walked */
+/* a hall as it stands before, and a run of turns on it, or the depth to which its orders are walked, or how many buckets it moves to */
 typedef struct {
     hall first;
     uint8_t turns[LONG_RUN];
     size_t count;
     size_t depth;
+    size_t buckets;
 } scene;
 
 /* most operations play in the first scene only */
@@ -43,7 +44,7 @@ typedef struct {
     const side *third;
 } operation;
 
-enum { OPERATIONS = 21 };
+enum { OPERATIONS = 25 };
 extern const operation operations[OPERATIONS];
 
 /* sets a stage up for an operation, and puts it back where that left it before */

@@ -51,7 +51,7 @@ desk_outcome plain_open_floor(uint64_t *board, size_t words, desk_worker *record
     }
     for (size_t i = 0; i < listed; i++) records[i] = idle_record;
     for (size_t i = 0; i < INDEX_WORDS; i++) index[i] = 0;
-    return answer_floor(0, (desk_floor){.workers = plan.workers, .buckets = plan.buckets, .last = 0});
+    return answer_floor(0, (desk_floor){.workers = plan.workers, .buckets = plan.buckets, .last = 0, .version = plan.version});
 }
 
 /* ---- starting */
@@ -160,6 +160,89 @@ uint8_t plain_retire(uint64_t *board, size_t words, desk_worker *records, size_t
     }
     *w = idle_record;
     return 0;
+}
+
+/* ---- moving (§22) */
+
+/* for each new bucket how many lots come there, and where on the old board these stand; a place that no lot comes to is never read */
+typedef struct {
+    uint8_t lots[MOST_BUCKETS];
+    uint16_t from[SLOTS * MOST_BUCKETS];
+} seating;
+
+/* the marks of a bucket whose first so many slots are valid */
+static const uint64_t first_valid[SLOTS + 1] = {0, 0x0000000100000000, 0x0000010100000000, 0x0001010100000000};
+
+/* somebody is broken, or else at a call; or 0 */
+static uint8_t refuse_records(const desk_worker *records, size_t listed) {
+    uint8_t refusal = 0;
+    for (size_t i = 0; i < listed; i++) {
+        if (idle(&records[i])) continue;
+        if (broken_record(&records[i])) return DESK_BROKEN_RECORD;
+        refusal = DESK_NOT_AT_REST;
+    }
+    return refusal;
+}
+
+/* a mark that is neither empty nor valid has a bit above the lowest */
+static bool unsettled(const uint64_t *bucket) {
+    return (bucket[MARKS] & 0xfffefefe00000000) != 0 || bucket[SPARE] != 0;
+}
+
+/* Finds every lot its slot with nothing written, as a later bucket can still refuse the move; answers the refusal, or 0. An old bucket that is
+   not settled comes before a new one that is crowded, so that all are gone over. */
+static uint8_t seat_lots(const uint64_t *old, size_t had, size_t buckets, seating *s) {
+    bool crowded = false;
+    for (size_t i = 0; i < buckets; i++) s->lots[i] = 0;
+    for (size_t at = 0; at < had; at += BUCKET_WORDS) {
+        if (unsettled(old + at)) return DESK_BROKEN_BUCKET;
+        for (uint64_t marks = old[at + MARKS] >> mark_shift(0), from = at + KEYS; marks != 0; marks >>= 8, from++) {
+            if ((marks & 0xff) == EMPTY) continue;
+            size_t to = old[from] % buckets;
+            if (s->lots[to] == SLOTS) crowded = true;
+            else s->from[SLOTS * to + s->lots[to]++] = (uint16_t)from;
+        }
+    }
+    return crowded ? DESK_CROWDED_BUCKET : 0;
+}
+
+/* so many lots, whose places on the old board begin at `from` */
+static void lay_bucket(const uint64_t *old, uint64_t *bucket, uint32_t version, unsigned lots, const uint16_t *from) {
+    bucket[MARKS] = first_valid[lots] | version;
+    for (size_t i = KEYS; i < BUCKET_WORDS; i++) bucket[i] = 0;
+    for (unsigned slot = 0; slot < lots; slot++) {
+        bucket[KEYS + slot] = old[from[slot]];
+        bucket[VALUES + slot] = old[from[slot] + SLOTS];
+    }
+}
+
+/* every bucket, and the index along with it: for each of its words the buckets whose bits are there */
+static void lay_lots(const uint64_t *old, uint64_t *board, uint64_t *index, const desk_floor *floor, const seating *s) {
+    uint64_t total = 0;
+    for (size_t word = 0, number = 0; word < INDEX_WORDS - BITS; word++) {
+        uint64_t bits = 0;
+        for (size_t end = IN_WORD * (word + 1); number < end && number < floor->buckets; number++) {
+            unsigned lots = s->lots[number];
+            lay_bucket(old, board + BUCKET_WORDS * number, floor->version, lots, s->from + SLOTS * number);
+            bits |= (uint64_t)(lots > 0) << number % IN_WORD;
+            total += lots;
+        }
+        index[BITS + word] = bits;
+    }
+    index[TOTAL] = total;
+}
+
+desk_outcome plain_move(const uint64_t *old, size_t had, uint64_t *board, size_t words, const desk_worker *records, size_t listed,
+    uint64_t *index, size_t entries, desk_floor floor, size_t buckets) {
+    if (!indexed_fits(had, listed, entries, floor.workers, floor.buckets) || !board_fits(words, floor.workers, buckets))
+        return answer_floor(DESK_WRONG_SIZES, floor);
+    seating s;
+    uint8_t refusal = refuse_records(records, listed);
+    if (refusal == 0) refusal = seat_lots(old, had, buckets, &s);
+    if (refusal != 0) return answer_floor(refusal, floor);
+    floor.buckets = buckets;
+    lay_lots(old, board, index, &floor, &s);
+    return answer_floor(0, floor);
 }
 
 /* ---- showing and counting */

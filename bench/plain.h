@@ -24,6 +24,9 @@ desk_run_outcome plain_run(uint64_t *board, size_t words, desk_worker *records, 
 uint8_t plain_retire(uint64_t *board, size_t words, desk_worker *records, size_t listed, uint64_t *index, size_t entries, desk_floor floor,
     size_t worker);
 
+desk_outcome plain_move(const uint64_t *old, size_t had, uint64_t *board, size_t words, const desk_worker *records, size_t listed,
+    uint64_t *index, size_t entries, desk_floor floor, size_t buckets);
+
 desk_part plain_show(const uint64_t *board, size_t words, desk_floor floor, uint64_t lot);
 uint8_t plain_show_refusal(const uint64_t *board, size_t words, desk_floor floor, uint64_t lot);
 

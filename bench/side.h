@@ -13,6 +13,7 @@ typedef struct {
     desk_turn_outcome (*turn)(uint64_t *, size_t, desk_worker *, size_t, uint64_t *, size_t, desk_floor, size_t);
     desk_run_outcome (*run)(uint64_t *, size_t, desk_worker *, size_t, uint64_t *, size_t, desk_floor, const uint8_t *, size_t);
     uint8_t (*retire)(uint64_t *, size_t, desk_worker *, size_t, uint64_t *, size_t, desk_floor, size_t);
+    desk_outcome (*move)(const uint64_t *, size_t, uint64_t *, size_t, const desk_worker *, size_t, uint64_t *, size_t, desk_floor, size_t);
     desk_part (*show)(const uint64_t *, size_t, desk_floor, uint64_t);
     uint8_t (*show_refusal)(const uint64_t *, size_t, desk_floor, uint64_t);
     desk_count_outcome (*count)(const uint64_t *, size_t, desk_floor);
@@ -36,7 +37,8 @@ enum { INDEX_WORDS = 5, IN_WORD = 64 };
 enum { SPARE_WORDS = 8, SPARE_RECORDS = 2, ROOM_WORDS = BUCKET_WORDS * (MOST_BUCKETS + 2), ROOM_RECORDS = MOST_WORKERS + 4 };
 enum { ROOM_INDEX = INDEX_WORDS + 3 };
 
-/* a floor with the board, the records and the index that are lent */
+/* a floor with the board, the records and the index that are lent; and a second board, which only a move is lent: where it is done, the two
+   change places */
 typedef struct {
     uint64_t board[ROOM_WORDS];
     size_t words;
@@ -45,6 +47,7 @@ typedef struct {
     uint64_t index[ROOM_INDEX];
     size_t entries;
     desk_floor floor;
+    uint64_t second[ROOM_WORDS];
 } hall;
 
 static inline size_t busy_workers(const hall *h) {

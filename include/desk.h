@@ -3,8 +3,8 @@
    Board, worker records, index and floor are the caller's own memory. desk_open_floor makes them ready; a start gives an idle worker a
    call to do, a look, an insert or a remove; each desk_turn then does one memory action of that call, and is given again until it says
    that the call has ended. A worker that will not go on is retired. The index is for a display that is to find the occupied buckets
-   without a walk over the board: turns and retirings keep it, and two questions are answered from it. README.md, under "From C", has a
-   whole program and how it is built.
+   without a walk over the board: turns and retirings keep it, and two questions are answered from it. Between two rounds, when nobody is at
+   a call, the lots can be moved to a bigger or a smaller board. README.md, under "From C", has a whole program and how it is built.
 
    What is asked of the caller: a pointer has as many words, records or turns behind it as the number after it says, and what a function
    may write to overlaps nothing else that it is given. Where that number is 0 the pointer may be NULL: an empty run is desk_run(board,
@@ -28,7 +28,7 @@
 /* The number of this interface, for `#if`. It goes up by one when a program that was written for it has to be looked at again: a
    struct has another layout, a function takes or answers something else, a constant stands for something else. Whoever upgrades compares
    it with the number that his program was written for. It has nothing to do with the version in a mark word. */
-#define DESK_VERSION 5
+#define DESK_VERSION 6
 
 /* ---- numbers */
 
@@ -52,33 +52,36 @@ enum {
 
 /* What a call answers: done, or the number by which it is refused. Of two reasons the one that the call looks at first is told: the
    sizes, then a run's length or whether a class is small, the worker's number, its record, whether it is busy, the ticket, the bucket, the
-   index. */
+   index. A move looks at the sizes, all records, whether somebody is at a call, all old buckets, and then whether the new ones have room. */
 enum {
     DESK_DONE = 0,
     DESK_WRONG_SIZES = 1,    /* too few or too many workers or buckets, the board not eight words for each bucket, the list not one
                                 record for each worker, or the index not DESK_INDEX_WORDS words; the list, and the index, where the call is
-                                given one */
+                                given one; for a move also the second board, and how many buckets it is to have */
     DESK_NO_WORKER = 2,      /* workers are counted from 0, and the number is past the last */
     DESK_BROKEN_RECORD = 3,  /* in the worker's record kind, place, ticket, held, slot and word do not go together: there is no such kind;
                                 it is idle, and not desk_idle_record() in every field; its kind of call never comes to that place; an
                                 insert has no ticket, or another call has one; a slot is held where none can be, or none where one must
                                 be; the slot is past the last; a look has a word, or another call one that is no mark word. For all
-                                orders it can be any worker's record */
+                                orders, and for a move, it can be any worker's record */
     DESK_BUSY_WORKER = 4,    /* a start for a worker whose last call has not ended */
     DESK_SPENT_TICKET = 5,   /* an insert's ticket has to be greater than all before it; so 0 never is a ticket */
     DESK_IDLE_WORKER = 6,    /* a turn for a worker that has no call, or a retiring of one */
     DESK_BROKEN_BUCKET = 7,  /* the lot's bucket has a mark over 2, something above the marks, or a spare word that is not 0. For a
                                 retiring only where the worker holds a slot; for a count it can be any bucket; for all orders it is the
-                                only one, also where nobody is busy */
+                                only one, also where nobody is busy; for a move it can be any of the old board, and one that has a mark of
+                                2 counts for broken too */
     DESK_MALFORMED = 8,      /* a sheet that cannot be read: the number is the rostrum's, and no call here gives it */
     DESK_TOO_LONG = 9,       /* a run of more than DESK_MOST_TURNS */
     DESK_NO_SMALL_CLASS = 10,
                              /* all orders, of more than one bucket, of more than DESK_MOST_IN_CLASS workers, or to a depth of 0 or of
                                 more than DESK_MOST_DEPTH */
-    DESK_UNTRUE_INDEX = 11   /* a turn, by itself or in a run, or a retiring of a worker that holds a slot, and the index does not tell
+    DESK_UNTRUE_INDEX = 11,  /* a turn, by itself or in a run, or a retiring of a worker that holds a slot, and the index does not tell
                                 what the bucket of the worker's lot does: the bucket's bit is set and it has no valid slot, or the other
                                 way round; or the total is below its valid slots; or the total is above three slots for every bucket
                                 less the slots of this one that are not valid. Never on an opened board with its own index */
+    DESK_NOT_AT_REST = 12,   /* a move, and a worker is at a call: whoever will not go on can be retired */
+    DESK_CROWDED_BUCKET = 13 /* a move, and some bucket of the new board would need a fourth slot for the lots that come there */
 };
 
 /* What a worker is at: `kind` in its record. */
@@ -123,17 +126,18 @@ enum {
 
    Of DESK_INDEX_WORDS words the first is the total, the number of valid slots on the board. Then comes a bit for each bucket, which is
    set where a slot of it is valid: that of bucket b is bit b % 64 of word 1 + b / 64. Bits past the last bucket are 0. desk_open_floor
-   makes it, and as long as every turn, run and retiring of that board is given it, it stays so. An index of any other numbers can be given
-   too: a turn or a retiring follows the bucket of its lot in it and touches nothing else of it, or is refused by DESK_UNTRUE_INDEX; the
-   questions are answered from what stands there. */
+   makes it, and desk_move makes it afresh, for the new board; as long as every turn, run and retiring of that board is given it, it stays
+   so. An index of any other numbers can be given too: a turn or a retiring follows the bucket of its lot in it and touches nothing else of
+   it, or is refused by DESK_UNTRUE_INDEX; the questions are answered from what stands there. */
 
 /* ---- what goes in and comes back */
 
 /* The floor. A call that can change it hands it back as it now stands: pass that one on. */
 typedef struct {
-    size_t workers; /* how many there are; also how many records are listed */
-    size_t buckets; /* how many the board has */
-    uint32_t last;  /* the ticket that an insert brought last; 0 before the first */
+    size_t workers;   /* how many there are; also how many records are listed */
+    size_t buckets;   /* how many the board has */
+    uint32_t last;    /* the ticket that an insert brought last; 0 before the first */
+    uint32_t version; /* with which every bucket began when the floor was opened, and begins again on a board that the lots move to; any */
 } desk_floor;
 
 /* What an opening asks for. */
@@ -164,7 +168,7 @@ typedef struct {
     uint8_t held;    /* the slot that an insert has claimed, or DESK_NO_SLOT */
 } desk_worker;
 
-/* What an opening or a start comes to. */
+/* What an opening, a start or a move comes to. */
 typedef struct {
     desk_floor floor; /* as it now stands; where refused, the one that was given */
     uint8_t refusal;  /* DESK_DONE, or why it is refused */
@@ -243,14 +247,15 @@ typedef struct {
 } desk_orders_outcome;
 
 /* ---- the functions. `words` is how many words the board has, `listed` how many records the list has, `entries` how many words the
-   index has. */
+   index has; `had` is how many words the board has that a move leaves. */
 
 #ifdef __cplusplus
 extern "C" {
 #endif
 
-/* Opens a floor: every bucket empty and at the plan's version, every worker idle, no ticket spent, an index of zeros. The floor that is
-   passed in is the one that stood before, all 0 where there was none; it comes back where the opening is refused. */
+/* Opens a floor: every bucket empty and at the plan's version, every worker idle, no ticket spent, an index of zeros. The floor has the
+   plan's numbers then, the version too. The one that is passed in is the one that stood before, all 0 where there was none; it comes back
+   where the opening is refused. */
 desk_outcome desk_open_floor(uint64_t *board, size_t words, desk_worker *records, size_t listed, uint64_t *index, size_t entries,
     desk_floor floor, desk_plan plan);
 
@@ -282,7 +287,7 @@ desk_turn_outcome desk_turn(uint64_t *board, size_t words, desk_worker *records,
    if it held none, its bucket is not looked at, and neither is the index, which else follows the bucket. Nothing else is touched; the
    floor stays as it is, and the ticket of a retired insert stays spent. A retiring is no turn: it reports nothing, is in no totals, and
    counts in nobody's `asleep`. On an opened board whoever is busy can be retired, and the mark word that the commit of a retired insert
-   would have expected never stands in its bucket again, however the board is used from then on. For a container that comes back after all
+   would have expected never stands in its bucket again, however that board is used from then on. For a container that comes back after all
    that is one lost swap, and no leave to go on with its old record: it begins a new call.
 
    Answers DESK_DONE, or why it is refused: DESK_WRONG_SIZES, DESK_NO_WORKER, DESK_BROKEN_RECORD, DESK_IDLE_WORKER, DESK_BROKEN_BUCKET and
@@ -296,6 +301,23 @@ uint8_t desk_retire(uint64_t *board, size_t words, desk_worker *records, size_t 
    for it stops the run. */
 desk_run_outcome desk_run(uint64_t *board, size_t words, desk_worker *records, size_t listed, uint64_t *index, size_t entries,
     desk_floor floor, const uint8_t *turns, size_t count);
+
+/* Moves the lots to a second board, of so many `buckets`, when nobody is at a call: each lot that stands on the old board, with its ticket,
+   in the order of the old buckets, and in a bucket of the slots, goes to the first empty slot of bucket lot % buckets. On the new board
+   every bucket is at the floor's version, every slot that no lot came to is empty, and every other word is 0, whatever was there before; the
+   index is made afresh from it. The floor that comes back has the new number of buckets, and all else as it was: tickets that are spent stay
+   spent. The old board and the records are only read, so whoever would rather stay goes on with the old board, its floor and an index of
+   it that he has kept.
+
+   From then on all calls are given the new board: whatever is still done on the old one does not reach it. A record that somebody has kept
+   from before must not be put back, since the versions have begun again. The old board can be lent again for the next move; the two boards of
+   one move must not overlap.
+
+   It is refused by DESK_WRONG_SIZES, DESK_BROKEN_RECORD, DESK_NOT_AT_REST, DESK_BROKEN_BUCKET and DESK_CROWDED_BUCKET, which are looked at in
+   this order, each for all records or all buckets before the next; then the new board and the index are as they were. On an opened board
+   where nobody is busy, and with sizes that fit, it is refused just where a new bucket would need a fourth slot. */
+desk_outcome desk_move(const uint64_t *old, size_t had, uint64_t *board, size_t words, const desk_worker *records, size_t listed,
+    uint64_t *index, size_t entries, desk_floor floor, size_t buckets);
 
 /* Tells which words of the board are the bucket of a lot: with `p` for the answer, the eight words from `board + p.start` on. Where
    the show is refused p.words is 0, and the second function, given the same, has the number. */

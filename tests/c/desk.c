@@ -1,7 +1,7 @@
 /* The library from C: every field where C reads it, the sleeper by single turns and by one run, a show and a count with the header's own
    readers, what the screen shows of an insert turn by turn, who has been asleep (asleep.c), what is reported (reports.c), all orders
-   (orders.c), retirings (retire.c), the hall display (display.c), every refusal (refusals.c), and a full round. Says what is not as it
-   should be, and how many checks were made. */
+   (orders.c), retirings (retire.c), the hall display (display.c), moves to another board (move.c), every refusal (refusals.c), and a full
+   round. Says what is not as it should be, and how many checks were made. */
 #include "hall.h"
 #include <stdio.h>
 
@@ -27,7 +27,7 @@ static void test_layout(void) {
     CHECK(one.board[16] == 0x5555555555555555u + 16);
     for (size_t i = 0; i < 5; i++) CHECK(one.index[i] == 0);
     CHECK(one.index[5] == 0x3333333333333333u + 5);
-    CHECK(one.floor.workers == 3 && one.floor.buckets == 2 && one.floor.last == 0);
+    CHECK(one.floor.workers == 3 && one.floor.buckets == 2 && one.floor.last == 0 && one.floor.version == 0xFFFFFFFFu);
 
     /* an insert that is about to store its key in slot 1: each field has a value of its own, and one turn leaves it in its place, but for
        `asleep`, which another's turn counts on */
@@ -51,7 +51,7 @@ static void test_layout(void) {
     CHECK(start_insert(&one, 2, 0x0102030405060708u, 0xFFFFFFFFu) == DESK_DONE);
     desk_worker inserts = {.key = 0x0102030405060708u, .ticket = 0xFFFFFFFFu, .kind = DESK_INSERT, .place = 1, .held = DESK_NO_SLOT};
     CHECK(same_record(&one.records[2], &inserts));
-    CHECK(one.floor.workers == 3 && one.floor.buckets == 2 && one.floor.last == 0xFFFFFFFFu);
+    CHECK(one.floor.workers == 3 && one.floor.buckets == 2 && one.floor.last == 0xFFFFFFFFu && one.floor.version == 0xFFFFFFFFu);
     CHECK(start_look(&one, 0, 5) == DESK_DONE);
     desk_worker looks = {.key = 5, .kind = DESK_LOOK, .place = 2, .held = DESK_NO_SLOT};
     CHECK(same_record(&one.records[0], &looks));
@@ -381,6 +381,7 @@ int main(void) {
     test_orders();
     test_retire();
     test_display();
+    test_move();
     test_refusals();
     test_full_round();
     test_lengths();

@@ -1,7 +1,7 @@
 #include "hall.h"
 
 hall one, two, before;
-static hall singly, unwalked, unretired;
+static hall singly, unwalked, unretired, unmoved, expected;
 static desk_worker stood[ROOM_FOR_WORKERS];
 static uint64_t displayed[ROOM_FOR_ENTRIES];
 uint8_t many[ROOM_FOR_TURNS];
@@ -17,8 +17,8 @@ bool same_record(const desk_worker *a, const desk_worker *b) {
            a->kind == b->kind && a->place == b->place && a->slot == b->slot && a->held == b->held;
 }
 
-static bool same_floor(desk_floor a, desk_floor b) {
-    return a.workers == b.workers && a.buckets == b.buckets && a.last == b.last;
+bool same_floor(desk_floor a, desk_floor b) {
+    return a.workers == b.workers && a.buckets == b.buckets && a.last == b.last && a.version == b.version;
 }
 
 static bool same_index(const uint64_t *a, const uint64_t *b) {
@@ -29,7 +29,7 @@ static bool same_index(const uint64_t *a, const uint64_t *b) {
 
 /* every word, every record and every entry, also those past what is lent */
 bool same_hall(const hall *a, const hall *b) {
-    for (size_t i = 0; i < DESK_BUCKET_WORDS * ROOM_FOR_BUCKETS; i++)
+    for (size_t i = 0; i < ROOM_FOR_WORDS; i++)
         if (a->board[i] != b->board[i]) return false;
     for (size_t i = 0; i < ROOM_FOR_WORKERS; i++)
         if (!same_record(&a->records[i], &b->records[i])) return false;
@@ -49,12 +49,12 @@ void copy_hall(hall *to, const hall *from) {
 }
 
 void fill(hall *h) {
-    for (size_t i = 0; i < DESK_BUCKET_WORDS * ROOM_FOR_BUCKETS; i++) h->board[i] = 0x5555555555555555u + i;
+    for (size_t i = 0; i < ROOM_FOR_WORDS; i++) h->board[i] = 0x5555555555555555u + i;
     for (size_t i = 0; i < ROOM_FOR_WORKERS; i++)
         h->records[i] =
             (desk_worker){.key = i, .word = 9, .seen = 9, .ticket = 9, .asleep = 9, .kind = 9, .place = 9, .slot = 9, .held = 9};
     for (size_t i = 0; i < ROOM_FOR_ENTRIES; i++) h->index[i] = 0x3333333333333333u + i;
-    h->floor = (desk_floor){.workers = 3, .buckets = 5, .last = 77};
+    h->floor = (desk_floor){.workers = 3, .buckets = 5, .last = 77, .version = 88};
 }
 
 void opened(hall *h, size_t workers, size_t buckets, uint32_t version) {
@@ -65,27 +65,32 @@ void opened(hall *h, size_t workers, size_t buckets, uint32_t version) {
     CHECK(open_hall(h, workers, buckets, version) == DESK_DONE);
 }
 
-static uint8_t kept(hall *h, desk_outcome o) {
+/* keeps the floor that came back, which has to be this one if the call is done, and else the one that was given */
+static uint8_t kept(hall *h, desk_outcome o, desk_floor done) {
+    CHECK(same_floor(o.floor, o.refusal == DESK_DONE ? done : h->floor));
     h->floor = o.floor;
     return o.refusal;
 }
 
 uint8_t open_hall(hall *h, size_t workers, size_t buckets, uint32_t version) {
     desk_plan plan = {.workers = workers, .buckets = buckets, .version = version};
-    return kept(h, desk_open_floor(h->board, h->words, h->records, h->listed, h->index, h->entries, h->floor, plan));
+    desk_floor done = {.workers = workers, .buckets = buckets, .last = 0, .version = version};
+    return kept(h, desk_open_floor(h->board, h->words, h->records, h->listed, h->index, h->entries, h->floor, plan), done);
 }
 
 uint8_t start_look(hall *h, size_t worker, uint64_t lot) {
-    return kept(h, desk_start_look(h->board, h->words, h->records, h->listed, h->floor, worker, lot));
+    return kept(h, desk_start_look(h->board, h->words, h->records, h->listed, h->floor, worker, lot), h->floor);
 }
 
 uint8_t start_insert(hall *h, size_t worker, uint64_t lot, uint32_t ticket) {
     desk_bid bid = {.lot = lot, .ticket = ticket};
-    return kept(h, desk_start_insert(h->board, h->words, h->records, h->listed, h->floor, worker, bid));
+    desk_floor done = h->floor;
+    done.last = ticket;
+    return kept(h, desk_start_insert(h->board, h->words, h->records, h->listed, h->floor, worker, bid), done);
 }
 
 uint8_t start_remove(hall *h, size_t worker, uint64_t lot) {
-    return kept(h, desk_start_remove(h->board, h->words, h->records, h->listed, h->floor, worker, lot));
+    return kept(h, desk_start_remove(h->board, h->words, h->records, h->listed, h->floor, worker, lot), h->floor);
 }
 
 /* 0 for a bucket that is past the room, as the sizes that are refused can lead to one */
@@ -226,6 +231,61 @@ desk_orders_outcome orders(const hall *h, size_t depth) {
     CHECK(same_hall(h, &unwalked));
     return o;
 }
+
+/* ---- a move: the second board is lent out of the middle of this room */
+
+enum { FENCE = 8 };
+static uint64_t fenced[FENCE + ROOM_FOR_WORDS + FENCE], *const lent = fenced + FENCE;
+
+/* numbers that stand on no other board here */
+static uint64_t post(size_t i) { return 0x7777777777777777u + i; }
+
+/* §22.2: a lot that stands goes to the first empty slot of its bucket; all slots before that one have lots already */
+static void expect_lot(hall *h, uint64_t lot, uint64_t ticket) {
+    uint64_t *bucket = h->board + DESK_BUCKET_WORDS * desk_bucket(lot, h->floor.buckets);
+    size_t slot = valid_slots(bucket[DESK_AT_MARK]);
+    CHECK(slot < DESK_SLOTS);
+    bucket[DESK_AT_MARK] |= (uint64_t)DESK_MARK_VALID << (32 + 8 * slot);
+    bucket[DESK_AT_KEYS + slot] = lot;
+    bucket[DESK_AT_VALUES + slot] = ticket;
+}
+
+/* §22: what a move that is done has to make of a hall */
+static void expect_moved(hall *h, const hall *from, size_t buckets) {
+    h->floor.buckets = buckets;
+    for (size_t i = 0; i < DESK_BUCKET_WORDS * buckets; i++) h->board[i] = i % DESK_BUCKET_WORDS == 0 ? from->floor.version : 0;
+    for (size_t i = 0; i < DESK_SLOTS * from->floor.buckets; i++) {
+        const uint64_t *bucket = from->board + DESK_BUCKET_WORDS * (i / DESK_SLOTS);
+        size_t slot = i % DESK_SLOTS;
+        if (desk_mark(bucket[DESK_AT_MARK], slot) == DESK_MARK_VALID) expect_lot(h, desk_key(bucket, slot), desk_value(bucket, slot));
+    }
+    full_reading(h, h->index);
+}
+
+static bool fence_stands(void) {
+    for (size_t i = 0; i < FENCE; i++)
+        if (fenced[i] != post(i) || lent[ROOM_FOR_WORDS + i] != post(FENCE + ROOM_FOR_WORDS + i)) return false;
+    return true;
+}
+
+uint8_t move_to(const hall *from, hall *to, size_t words, size_t buckets) {
+    copy_hall(&unmoved, from);
+    copy_hall(to, from);
+    for (size_t i = 0; i < FENCE + ROOM_FOR_WORDS + FENCE; i++) fenced[i] = post(i);
+    for (size_t i = 0; i < ROOM_FOR_WORDS; i++) to->board[i] = lent[i];
+    copy_hall(&expected, to);
+    desk_outcome o = desk_move(from->board, from->words, lent, words, to->records, to->listed, to->index, to->entries, from->floor, buckets);
+    for (size_t i = 0; i < ROOM_FOR_WORDS; i++) to->board[i] = lent[i];
+    to->words = words;
+    to->floor = o.floor;
+    if (o.refusal == DESK_DONE) expect_moved(&expected, from, buckets);
+    CHECK(same_hall(to, &expected) && same_hall(from, &unmoved) && fence_stands());
+    return o.refusal;
+}
+
+uint8_t move(const hall *from, hall *to, size_t buckets) { return move_to(from, to, DESK_BUCKET_WORDS * buckets, buckets); }
+
+/* ---- the display's questions, and what is refused */
 
 desk_total_outcome total(const hall *h) { return desk_total(h->board, h->words, h->index, h->entries, h->floor); }
 

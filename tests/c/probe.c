@@ -1,13 +1,14 @@
-/* The probe: reads a stream of cases, each any floor, any board, any records, any index and a call with any numbers, makes the library's
-   call, and writes for each what came back and everything that stands afterwards; also where the library wrote outside of what it was lent.
+/* The probe: reads a stream of cases, each any floor, any board, any records, any index, any second board and a call with any numbers, makes
+   the library's call, and writes for each what came back and everything that stands afterwards; also where the library wrote outside of what
+   it was lent.
    tests/reference/README.md has the form of a case and of a line. */
 #include "desk.h"
 #include <stdio.h>
 #include <string.h>
 
 /* a body; two buckets more than a board can have; as many records more than a list can have as a byte has values; eight words more than an
-   index has; some turns more than a run may have; and how much stands on both sides of the board, of the list and of the index, and of which
-   byte */
+   index has; some turns more than a run may have; and how much stands on both sides of each board, of the list and of the index, and of
+   which byte */
 enum { LONGEST = 65535, MOST_WORDS = 2064, MOST_RECORDS = 320, MOST_ENTRIES = 13, MOST_TURNS = 65540, FENCE = 8, POST = 0xa5 };
 
 static uint8_t body[LONGEST], turns[MOST_TURNS];
@@ -15,7 +16,8 @@ static size_t length, next, count;
 static uint64_t fenced_board[FENCE + MOST_WORDS + FENCE], *const board = fenced_board + FENCE;
 static desk_worker fenced_records[FENCE + MOST_RECORDS + FENCE], *const records = fenced_records + FENCE;
 static uint64_t fenced_index[FENCE + MOST_ENTRIES + FENCE], *const display = fenced_index + FENCE;
-static size_t words, listed, entries;
+static uint64_t fenced_second[FENCE + MOST_WORDS + FENCE], *const second = fenced_second + FENCE;
+static size_t words, listed, entries, second_words;
 static desk_floor floor;
 
 /* ---- a case out of its bytes; those that it does not have read as 0 */
@@ -39,7 +41,7 @@ static size_t least(uint64_t a, size_t b) {
     return a < b ? a : b;
 }
 
-/* the board or the index; how many words it has */
+/* a board or the index; how many words it has */
 static size_t read_words(uint64_t *part, size_t most) {
     uint64_t more = 0, word = 0;
     size_t many = least(number(), most);
@@ -100,6 +102,8 @@ static void fence(void) {
     memset(records + listed, POST, FENCE * sizeof *records);
     memset(fenced_index, POST, FENCE * sizeof *display);
     memset(display + entries, POST, FENCE * sizeof *display);
+    memset(fenced_second, POST, FENCE * sizeof *second);
+    memset(second + second_words, POST, FENCE * sizeof *second);
 }
 
 static bool stands(const void *side, size_t bytes) {
@@ -113,11 +117,11 @@ static bool stands(const void *side, size_t bytes) {
 
 static void check_fence(void) {
     if (!stands(fenced_board, FENCE * sizeof *board) || !stands(fenced_records, FENCE * sizeof *records) ||
-        !stands(fenced_index, FENCE * sizeof *display)) {
+        !stands(fenced_index, FENCE * sizeof *display) || !stands(fenced_second, FENCE * sizeof *second)) {
         printf(" written before the start");
     }
     if (!stands(board + words, FENCE * sizeof *board) || !stands(records + listed, FENCE * sizeof *records) ||
-        !stands(display + entries, FENCE * sizeof *display)) {
+        !stands(display + entries, FENCE * sizeof *display) || !stands(second + second_words, FENCE * sizeof *second)) {
         printf(" written past the end");
     }
 }
@@ -203,7 +207,14 @@ static void next_outcome(desk_next_outcome n) {
     printf("next %x %x %lx", n.refusal, n.found, n.bucket);
 }
 
-/* the number of the worker is the depth, where all orders are asked for, and where the next occupied bucket is, the one to begin with */
+/* of a call that is not given the second board nothing is told of it */
+static void move_outcome(size_t buckets) {
+    outcome("move", desk_move(board, words, second, second_words, records, listed, display, entries, floor, buckets));
+    words_out(second, second_words);
+}
+
+/* the number of the worker is the depth, where all orders are asked for; where the next occupied bucket is, the one to begin with; and of a
+   move how many buckets there are to be */
 static void call(unsigned which, uint64_t worker, uint64_t lot, uint32_t ticket) {
     switch (which) {
     case 0:
@@ -219,7 +230,8 @@ static void call(unsigned which, uint64_t worker, uint64_t lot, uint32_t ticket)
     case 8: orders_outcome(desk_orders(board, words, records, listed, floor, worker)); break;
     case 9: printf("retire %x", desk_retire(board, words, records, listed, display, entries, floor, worker)); break;
     case 10: total_outcome(desk_total(board, words, display, entries, floor)); break;
-    default: next_outcome(desk_next_occupied(board, words, display, entries, floor, worker)); break;
+    case 11: next_outcome(desk_next_occupied(board, words, display, entries, floor, worker)); break;
+    default: move_outcome(worker); break;
     }
 }
 
@@ -228,19 +240,21 @@ int main(void) {
     while (fread(head, 1, 2, stdin) == 2) {
         length = fread(body, 1, (size_t)head[0] << 8 | head[1], stdin);
         next = 0;
-        unsigned which = (unsigned)byte() % 12;
+        unsigned which = (unsigned)byte() % 13;
         floor.workers = number();
         floor.buckets = number();
         floor.last = (uint32_t)number();
+        floor.version = (uint32_t)number();
         uint64_t worker = number(), lot = number();
         uint32_t ticket = (uint32_t)number();
         words = read_words(board, MOST_WORDS);
         read_records();
         entries = read_words(display, MOST_ENTRIES);
+        second_words = read_words(second, MOST_WORDS);
         read_turns();
         fence();
         call(which, worker, lot, ticket);
-        printf(" | %lx %lx %x", floor.workers, floor.buckets, floor.last);
+        printf(" | %lx %lx %x %x", floor.workers, floor.buckets, floor.last, floor.version);
         words_out(board, words);
         records_out();
         words_out(display, entries);

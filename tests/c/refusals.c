@@ -1,5 +1,6 @@
-/* Every refusal: the number alone, and everything as it was; those of all orders are in orders.c, and each cause of 11 is in display.c.
-   Buckets begin at version 9, and some lots are of the second one, since a refused turn must tell nothing of its bucket. */
+/* Every refusal: the number alone, and everything as it was; those of all orders are in orders.c, each cause of 11 is in display.c, and those
+   of a move, one by one and two by two, in move.c. Buckets begin at version 9, and some lots are of the second one, since a refused turn must
+   tell nothing of its bucket. */
 #include "hall.h"
 
 static uint8_t refused_show(uint64_t lot) {
@@ -40,6 +41,8 @@ static void all_give_1(bool board_too) {
     REFUSED(DESK_WRONG_SIZES, refused_orders(0));
     REFUSED(DESK_WRONG_SIZES, retire(&one, 0));
     REFUSED(DESK_WRONG_SIZES, retire(&one, SIZE_MAX));
+    REFUSED(DESK_WRONG_SIZES, move(&one, &two, 1));
+    REFUSED(DESK_WRONG_SIZES, move(&one, &two, 256));
     if (board_too) {
         REFUSED(DESK_WRONG_SIZES, refused_show(7));
         REFUSED(DESK_WRONG_SIZES, refused_count());
@@ -70,6 +73,7 @@ static void index_gives_1(size_t entries) {
     REFUSED(DESK_WRONG_SIZES, refused_total());
     REFUSED(DESK_WRONG_SIZES, refused_next(0));
     REFUSED(DESK_WRONG_SIZES, refused_next(SIZE_MAX));
+    REFUSED(DESK_WRONG_SIZES, move(&one, &two, 2));
     REFUSED(DESK_DONE, desk_show_refusal(one.board, one.words, one.floor, 7));
     REFUSED(DESK_DONE, desk_count(one.board, one.words, one.floor).refusal);
     CHECK(start_look(&one, 1, 7) == DESK_DONE);
@@ -138,6 +142,7 @@ static void idle_and_asleep(uint32_t asleep) {
     REFUSED(DESK_BROKEN_RECORD, refused_run(&third, 1));
     REFUSED(DESK_BROKEN_RECORD, retire(&one, 2));
     REFUSED(DESK_BROKEN_RECORD, refused_orders(1));
+    REFUSED(DESK_BROKEN_RECORD, move(&one, &two, 1));
     one.records[2].asleep = 0;
     CHECK(start_look(&one, 2, 7) == DESK_DONE);
 }
@@ -152,6 +157,7 @@ static void test_records(void) {
     REFUSED(DESK_BROKEN_RECORD, refused_turn(0));
     REFUSED(DESK_BROKEN_RECORD, refused_run(&first, 1));
     REFUSED(DESK_BROKEN_RECORD, retire(&one, 0));
+    REFUSED(DESK_BROKEN_RECORD, move(&one, &two, 2));
     CHECK(start_remove(&one, 1, 5) == DESK_DONE);
     one.records[1].place = 14;
     REFUSED(DESK_BROKEN_RECORD, refused_turn(1));
@@ -176,6 +182,7 @@ static void test_calls(void) {
     REFUSED(DESK_IDLE_WORKER, retire(&one, 1));
     REFUSED(DESK_TOO_LONG, refused_run(many, ROOM_FOR_TURNS));
     REFUSED(DESK_DONE, refused_run(many, 0));
+    REFUSED(DESK_NOT_AT_REST, move(&one, &two, 1));
 
     one.board[DESK_AT_SPARE] = 1;
     REFUSED(DESK_BROKEN_BUCKET, refused_turn(0));
@@ -187,7 +194,7 @@ static void test_calls(void) {
     CHECK(start_look(&one, 1, 7) == DESK_DONE);
 }
 
-/* of two buckets one is broken: a turn and a show go by their lot's own, a count by any */
+/* of two buckets one is broken: a turn and a show go by their lot's own, a count and a move by any */
 static void test_buckets(void) {
     uint8_t second = 1;
     opened(&one, 2, 2, 9);
@@ -199,6 +206,8 @@ static void test_buckets(void) {
     CHECK(desk_show_refusal(one.board, one.words, one.floor, 4) == DESK_DONE);
     REFUSED(DESK_BROKEN_BUCKET, refused_show(5));
     REFUSED(DESK_BROKEN_BUCKET, refused_count());
+    CHECK(retire(&one, 0) == DESK_DONE && retire(&one, 1) == DESK_DONE);
+    REFUSED(DESK_BROKEN_BUCKET, move(&one, &two, 2));
 }
 
 /* ---- a retiring: each way to break a bucket, where a slot is held and where none is; and which reason comes first */
@@ -321,7 +330,15 @@ static desk_outcome open_nothing(uint64_t *board, size_t words, desk_worker *rec
     return desk_open_floor(board, words, records, listed, index, entries, one.floor, plan);
 }
 
-/* no pointer where there is nothing behind it: an empty run is done, and no board, no list and no index are sizes that do not fit */
+static void move_nothing(const uint64_t *old, size_t had, uint64_t *board, size_t words, const desk_worker *records, size_t listed,
+    uint64_t *index, size_t entries) {
+    desk_outcome o = {.refusal = DESK_DONE};
+    REFUSED(DESK_WRONG_SIZES, (o = desk_move(old, had, board, words, records, listed, index, entries, one.floor, words / 8)).refusal);
+    CHECK(same_floor(o.floor, one.floor));
+}
+
+/* no pointer where there is nothing behind it: an empty run is done, and no board, no second one, no list and no index are sizes that do not
+   fit */
 static void test_nothing(void) {
     desk_floor none = {0};
     opened(&one, 2, 1, 9);
@@ -348,6 +365,11 @@ static void test_nothing(void) {
     CHECK(desk_orders(NULL, 0, NULL, 0, none, 1).refusal == DESK_WRONG_SIZES);
     CHECK(desk_orders(NULL, 0, one.records, 2, one.floor, 1).refusal == DESK_WRONG_SIZES);
     CHECK(desk_orders(one.board, 8, NULL, 0, one.floor, 1).refusal == DESK_WRONG_SIZES);
+    move_nothing(NULL, 0, NULL, 0, NULL, 0, NULL, 0);
+    move_nothing(NULL, 0, two.board, 8, one.records, 2, one.index, 5);
+    move_nothing(one.board, 8, NULL, 0, one.records, 2, one.index, 5);
+    move_nothing(one.board, 8, two.board, 8, NULL, 0, one.index, 5);
+    move_nothing(one.board, 8, two.board, 8, one.records, 2, NULL, 0);
 }
 
 void test_refusals(void) {

@@ -10,13 +10,16 @@ use Rattle.turn.specs.declared.Progress.{Progress}
 use Rattle.turn.specs.declared.Progress.the-variants.{GoesOn, Ended}
 use Rattle.turn.specs.Worker.{idle}
 use Rattle.history.specs.Trace.{Turn, Retiring, Entry, acted, retired, wasOf, By, OwnEnd, None}
-use Rattle.history.specs.History.{State, Opening, Call, opened, recordOf, after, stateFrom, traceFrom, state, trace}
+use Rattle.history.specs.History.{State, recordOf, after}
+use Rattle.history.specs.Moves.{Lent, Step, calls, stateThrough, traceThrough}
+use Rattle.history.specs.Moved.{movedTo}
 use Rattle.history.proofs.View.{new-record}
 use Rattle.history.proofs.States.{view}
-use Rattle.history.proofs.Histories.{stateFrom-append, traceFrom-append}
+use Rattle.history.proofs.Ready.{Ready}
+use Rattle.history.proofs.Through.{stateThrough-append, traceThrough-append, call-keeps, steps-last}
 use Rattle.history.proofs.Cuts.{none-nil}
 use Rattle.history.proofs.Later.{none-last}
-use Rattle.history.proofs.Steps.{Begins, Turns, Retires, stepOf, Lasts, calls-last}
+use Rattle.history.proofs.Steps.{Begins, Turns, Retires, stepOf, Lasts}
 use Rattle.history.proofs.Account.{goes-busy}
 use Rattle.clerk.specs.Does.{Asked}
 use Rattle.clerk.specs.Calls.{EndedCall, asks}
@@ -163,6 +166,15 @@ module _ (i : ℕ) (asked : Asked) (before : List Entry) where
         unended = old .unended;
       })
 
+  -- ---- a move
+
+  -- §22.3: a move leaves the records, and has no turn
+  move-followed : (s : State) (m : Lent) (past : List Entry) → Followed s past → Followed (movedTo s m) past
+  move-followed s m past (inl old) = inl (record { works = old .works; since = old .since; turns = old .turns; unended = old .unended })
+  move-followed s m past (inr old) = inr old
+
+  -- ---- any number of them
+
   followed-lasts : Lasts (λ s past ts. Followed s past)
   followed-lasts =
       record {
@@ -171,20 +183,20 @@ module _ (i : ℕ) (asked : Asked) (before : List Entry) where
         retires = λ past ts act old. retire-followed past act old;
       }
 
--- ---- from the start to the end of the calls
+-- ---- from the start on
 
-module _ (o : Opening) (calls : List Call) (start : Start o calls) where
+module _ {first : State} (ready : Ready first) (steps : List Step) (start : Start first steps) where
   abbrev i : ℕ
   i = start .worker
 
   abbrev s : State
-  s = state o (start .earlier)
+  s = stateThrough first (start .earlier)
 
   abbrev t : State
   t = after s (start .call)
 
   abbrev before : List Entry
-  before = trace o (start .earlier)
+  before = traceThrough first (start .earlier)
 
   pub accepted : Taken s i (start .asked) t
   accepted = by (start-tried s (start .is))
@@ -202,37 +214,38 @@ module _ (o : Opening) (calls : List Call) (start : Start o calls) where
   followed-first : Followed i (start .asked) before t before
   followed-first = inl (record { works = works-first; since = []; turns = sym (append-nil before); unended = none-nil (OwnEnd i) })
 
-  state-last : state o calls ≡ stateFrom t (start .later)
-  unfolding stateFrom
-  state-last = ap (stateFrom (opened o)) (start .cut) ∙ stateFrom-append (opened o) (start .earlier) (start .call ∷ start .later)
+  state-last : stateThrough first steps ≡ stateThrough t (start .later)
+  unfolding stateThrough
+  state-last = ap (stateThrough first) (start .cut) ∙ stateThrough-append first (start .earlier) (calls (start .call) ∷ start .later)
 
-  trace-last : trace o calls ≡ before ++ traceFrom t (start .later)
-  unfolding traceFrom
+  trace-last : traceThrough first steps ≡ before ++ traceThrough t (start .later)
+  unfolding traceThrough
   trace-last =
-      ap (traceFrom (opened o)) (start .cut)
-      ∙ traceFrom-append (opened o) (start .earlier) (start .call ∷ start .later)
-      ∙ ap (λ (l : List Entry). before ++ (l ++ traceFrom t (start .later))) (start-turns s (start .is))
+      ap (traceThrough first) (start .cut)
+      ∙ traceThrough-append first (start .earlier) (calls (start .call) ∷ start .later)
+      ∙ ap (λ (l : List Entry). before ++ (l ++ traceThrough t (start .later))) (start-turns s (start .is))
 
-  followed-last : Followed i (start .asked) before (state o calls) (trace o calls)
+  followed-last : Followed i (start .asked) before (stateThrough first steps) (traceThrough first steps)
   followed-last =
-      subst (λ (u : State). Followed i (start .asked) before u (trace o calls)) (sym state-last)
+      subst (λ (u : State). Followed i (start .asked) before u (traceThrough first steps)) (sym state-last)
       (subst (Followed i (start .asked) before _) (sym trace-last)
-      (calls-last (λ s past ts. Followed i (start .asked) before s past) (followed-lasts i (start .asked) before) (start .later) t before [] followed-first))
+      (steps-last (Followed i (start .asked) before) (call-keeps (Followed i (start .asked) before) (followed-lasts i (start .asked) before))
+      (move-followed i (start .asked) before) (start .later) t before followed-first))
 
   -- §17.3, §19.6: each start that was accepted began a call that has ended, or its worker is at it still, or was retired from it
-  pub starts-accounted : ((c : EndedCall) × BegunBy o calls start c) ⊎ (StillAt o calls start ⊎ RetiredFrom o calls start)
+  pub starts-accounted : ((c : EndedCall) × BegunBy first steps start c) ⊎ (StillAt first steps start ⊎ RetiredFrom first steps start)
   starts-accounted = by followed-last
     where
       ended :
-          (e : Entry) (end : Over i (start .asked) before (trace o calls))
+          (e : Entry) (end : Over i (start .asked) before (traceThrough first steps))
           → end .entry ≡ e
-          → ((c : EndedCall) × BegunBy o calls start c) ⊎ (StillAt o calls start ⊎ RetiredFrom o calls start)
+          → ((c : EndedCall) × BegunBy first steps start c) ⊎ (StillAt first steps start ⊎ RetiredFrom first steps start)
       ended (acted e) end is =
           let fate : Fate i (start .asked) before (acted e) = rw is at (end .fate) in
           inl (
             callOf (before ++ end .between) e (fate .0),
-            begun-by o calls start (end .between) e (end .later) (fate .0) (rw is at (end .turns))
-                (rests-then o (start .earlier) i (ap (λ (w : Worker). w .kind) (accepted .was))) (end .unended) (rw is at (end .own))
+            begun-by first steps start (end .between) e (end .later) (fate .0) (rw is at (end .turns))
+                (rests-then first ready (start .earlier) i (ap (λ (w : Worker). w .kind) (accepted .was))) (end .unended) (rw is at (end .own))
                 (rw is at (end .asks-it)) (fate .1),
           )
       ended (retired r) end is =
@@ -247,8 +260,8 @@ module _ (o : Opening) (calls : List Call) (start : Start o calls) where
           }))
 
       by :
-          Followed i (start .asked) before (state o calls) (trace o calls)
-          → ((c : EndedCall) × BegunBy o calls start c) ⊎ (StillAt o calls start ⊎ RetiredFrom o calls start)
+          Followed i (start .asked) before (stateThrough first steps) (traceThrough first steps)
+          → ((c : EndedCall) × BegunBy first steps start c) ⊎ (StillAt first steps start ⊎ RetiredFrom first steps start)
       by (inl on) =
           inr (inl (record {
             busy = on .works .busy;

@@ -1,7 +1,7 @@
 -- A worker that has a call under way has had a turn of it, or stands as its start left it. Assumes nothing.
 use Prim.Native.Nat.{ℕ, _+_, _≤_}
 use mathlib.Core.List.{List, [], _∷_, _++_}
-use mathlib.Core.Path.{_≡_, refl, sym}
+use mathlib.Core.Path.{_≡_, refl, sym, ap, _∙_}
 use native.Mathlib.Decide.{ℕ-discrete}
 use native.Mathlib.Omega.{arith}
 use lib.ListN.{length}
@@ -13,14 +13,14 @@ use Rattle.history.specs.Trace.{Turn, Retiring, Entry, acted, retired, Continue
 use Rattle.history.specs.History.{State, recordOf}
 use Rattle.history.proofs.Numbered.{answered-ends}
 use Rattle.history.proofs.Steps.{StartOf, of-look, of-insert, of-remove, Begins, Turns, Retires, stepOf}
-use Rattle.history.proofs.Account.{ended-idle, goes-busy}
+use Rattle.history.proofs.Account.{ended-idle, goes-busy, still-on}
 use Rattle.clerk.proofs.Since.{firstOr, first-or-some, since, since-other, since-goes, since-ends, since-within}
-use Rattle.clerk.proofs.Steps.{each-turn, each-retiring, each-start}
+use Rattle.clerk.proofs.Steps.{busy-kind, each-turn, each-retiring, each-start}
 
 -- the record w of a worker whose call has its first turn at k, or had none where k is 0
 pub record Under (k : ℕ) (w : Worker) : Type 0 where
   pub fresh : k ≡ 0 → (w .place ≤ 2) × (w .slot ≡ 0)
-  pub rests : w ≡ idle → k ≡ 0
+  pub rests : w .kind ≡ 0 → k ≡ 0
 
 -- every worker has had a turn of its call, or stands as its start left it
 abbrev pub Begun : List Entry → State → Type 0
@@ -69,7 +69,7 @@ module _ {s t : State} {e : Turn} (past : List Entry) (act : Turns s e t) where
   by-progress GoesOn goes =
       record {
         fresh = λ none. absurd (omega (arith, since-goes (e .worker) past (acted e) refl goes, first-turn-among (e .worker) past .0));
-        rests = λ is. absurd (goes-busy act goes is);
+        rests = λ none. absurd (busy-kind _ _ (act .ok .sound .stands) (sym (still-on act (goes-busy act goes) .call .kind) ∙ none));
       }
   by-progress (Ended answer) over =
       let is : v ≡ idle = ended-idle act answer over in
@@ -106,4 +106,8 @@ start-fresh (of-remove lot) = (omega arith, refl)
 pub start-begun : {s t : State} {v : Worker} {spent : List ℕ} (past : List Entry) → Begins s v spent t → Begun past s → Begun past t
 start-begun past start old =
     each-start start (λ j u. Under (since j past) u)
-    (record { fresh = λ none. start-fresh (start .kind); rests = λ is. old (start .starts .who) .rests (start .starts .was) }) (λ j other. old j)
+    (record {
+      fresh = λ none. start-fresh (start .kind);
+      rests = λ is. old (start .starts .who) .rests (ap (λ (w : Worker). w .kind) (start .starts .was));
+    })
+    (λ j other. old j)

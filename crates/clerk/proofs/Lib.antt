@@ -3,6 +3,7 @@ pub mod TheClerk
 pub mod Played
 -- what holds all the time, and that every step keeps it: the clauses
 pub mod Standing
+pub mod Stood
 pub mod Recalls
 pub mod Knows
 pub mod Distinct

@@ -3,8 +3,9 @@ use mathlib.Core.List.{List, [], _∷_, _++_}
 use mathlib.Core.Path.{_≡_, refl, _∙_}
 use Rattle.turn.specs.declared.Worker.{Worker}
 use Rattle.turn.specs.Worker.{lookKind, insertKind, removeKind}
+use Rattle.engine.specs.Move.{Line}
 use Rattle.history.specs.Trace.{Entry, wasOf, IsTurn}
-use Rattle.clerk.specs.Does.{Line, look, insert, remove, does}
+use Rattle.clerk.specs.Does.{look, insert, remove, does}
 use Rattle.clerk.specs.Calls.{Settles, isSettled, asks, doneBy, listFrom, listAfter}
 
 -- ---- what a record asks

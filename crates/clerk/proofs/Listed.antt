@@ -10,8 +10,9 @@ use lib.Dec.{eqb}
 use lib.ListN.{length}
 use borrow.Author.Tests.{eq-eqb, ne-eqb, eqb-false}
 use Rattle.mark.proofs.Choices.{not-both}
+use Rattle.engine.specs.Move.{Line}
 use Rattle.history.specs.Trace.{Entry, wasOf, IsTurn}
-use Rattle.clerk.specs.Does.{Line, line, Asked, look, insert, remove, Told, told, isIn, ticketIn, without, does, TellsChange}
+use Rattle.clerk.specs.Does.{line, Asked, look, insert, remove, Told, told, isIn, ticketIn, without, does, TellsChange}
 use Rattle.clerk.specs.Calls.{Settles, isSettled, asks, doneBy, listFrom, listAfter}
 use Rattle.walks.specs.Lists.{Each, In, Ordered}
 use Rattle.walks.proofs.Lists.{each-then, each-in}

@@ -1,5 +1,5 @@
 -- The clerk's list is what stands in the valid slots: a commit adds its lot to both, a close strikes it from both, and no other turn touches
--- either. So a commit and a close give the clerk's answer, and the list is as long as there are commits less closes. Assumes nothing.
+-- either. So a commit and a close give the clerk's answer, and the list grows by a commit and shrinks by a close. Assumes nothing.
 use Prim.Native.Nat.{ℕ, _+_}
 use mathlib.Core.List.{List, [], _∷_, _++_}
 use mathlib.Core.Logic.{inl, inr}
@@ -10,6 +10,7 @@ use lib.ListN.{length}
 use Rattle.turn.specs.declared.Worker.{Worker}
 use Rattle.turn.specs.declared.Progress.the-variants.{Ended}
 use Rattle.engine.specs.Board.{bucketOf}
+use Rattle.engine.specs.Move.{Line}
 use Rattle.history.specs.Trace.{Turn, Retiring, Entry, acted, retired, Commits, Closes, IsTurn}
 use Rattle.history.specs.Counts.{commitsIn, closesIn, isCommit, isClose}
 use Rattle.history.specs.History.{State}
@@ -17,7 +18,7 @@ use Rattle.history.specs.Values.{valueAt}
 use Rattle.history.specs.Cells.{cellsAt, markAt, keyAt}
 use Rattle.history.proofs.Steps.{Begins, Turns, Retires}
 use Rattle.history.proofs.Cells.{Known}
-use Rattle.clerk.specs.Does.{Line, line, Asked, Told, told, does, without, TellsChange}
+use Rattle.clerk.specs.Does.{line, Asked, Told, told, does, without, TellsChange}
 use Rattle.clerk.specs.Calls.{asks, Settles, listAfter}
 use Rattle.walks.specs.Lists.{Each, In}
 use Rattle.clerk.proofs.Counts.{count-more, count-same}
@@ -51,8 +52,10 @@ shows-on l same shows =
 pub record Lists (n : ℕ) (past : List Entry) (s : State) : Type 0 where
   pub there : (l : Line) → In l (listAfter past) → Shows n s l
   pub all : (l : Line) → Shows n s l → In l (listAfter past)
-  -- as many lines as there were commits less closes
-  pub long : length (listAfter past) + closesIn past ≡ commitsIn past
+
+-- the list after past has as many lines as there were lots where newer began, with the commits of newer and without its closes
+abbrev pub Long : ℕ → List Entry → List Entry → Type 0
+Long lots past newer = length (listAfter past) + closesIn newer ≡ lots + commitsIn newer
 
 -- where no slot has a lot, no line of the list has it
 pub none-listed :
@@ -69,17 +72,25 @@ quiet-lists :
     (n : ℕ) {s t : State} (past : List Entry) (e : Entry)
     → Lists n past s
     → (IsTurn Settles e → ⊥)
-    → (IsTurn Commits e → ⊥)
-    → (IsTurn Closes e → ⊥)
     → ((b p : ℕ) → SameSlot (cellsAt s b) (cellsAt t b) p)
     → Lists n (past ++ (e ∷ [])) t
-quiet-lists n past e lists quiet uncommitted unclosed slots =
+quiet-lists n past e lists quiet slots =
     let same = list-quiet past e quiet in
     record {
       there = λ l inside. shows-on l (slots (bucketOf (l .lot) n)) (lists .there l (subst (In l) same inside));
       all = λ l shows. subst (In l) (sym same) (lists .all l (shows-on l (λ p. same-back (slots (bucketOf (l .lot) n) p)) shows));
-      long = rw same (omega (arith, lists .long, count-same isCommit past e uncommitted, count-same isClose past e unclosed));
     }
+
+-- and leaves it as long as it was
+quiet-long :
+    (lots : ℕ) (past newer : List Entry) (e : Entry)
+    → Long lots past newer
+    → (IsTurn Settles e → ⊥)
+    → (IsTurn Commits e → ⊥)
+    → (IsTurn Closes e → ⊥)
+    → Long lots (past ++ (e ∷ [])) (newer ++ (e ∷ []))
+quiet-long lots past newer e long quiet uncommitted unclosed =
+    rw (list-quiet past e quiet) (omega (arith, long, count-same isCommit newer e uncommitted, count-same isClose newer e unclosed))
 
 -- ---- a turn
 
@@ -159,7 +170,6 @@ module _
         record {
           there = λ l inside. shows-then l (subst (In l) commit-list inside);
           all = λ l shows. subst (In l) (sym commit-list) (listed-then l shows (from l shows));
-          long = rw commit-list (omega (arith, lists .long, count-more isCommit past (acted e) commit, count-same isClose past (acted e) (no-commit-closes e commit)));
         }
       where
         shows-then : (l : Line) → In l (added ∷ list) → Shows n t l
@@ -228,15 +238,6 @@ module _
               let shows = lists .there l (left .0) in
               still l shows (fate l shows) (λ closes bucket slot. left .1 (lot-of l shows bucket slot));
           all = λ l shows. subst (In l) (sym close-list) (listed-then l shows (from l shows));
-          long =
-              rw close-list
-              (omega (
-                arith,
-                lists .long,
-                without-length struck list (listed-once past) listed,
-                count-more isClose past (acted e) close,
-                count-same isCommit past (acted e) (λ commit. no-commit-closes e commit close),
-              ));
         }
       where
         -- a line in the slot that is closed is of the lot that is struck
@@ -265,10 +266,29 @@ module _
   turn-lists = by deals
     where
       by : Deals s e t → Lists n now t
-      by (nothing unsettled slots) =
-          quiet-lists n past (acted e) lists unsettled (λ commit. unsettled (inl commit)) (λ close. unsettled (inr close)) slots
+      by (nothing unsettled slots) = quiet-lists n past (acted e) lists unsettled slots
       by (comes commit did) = commit-lists commit did
       by (goes close did) = close-lists close did
+
+  -- a turn keeps the length of the list what was counted
+  pub turn-long : (lots : ℕ) (newer : List Entry) → Long lots past newer → Long lots now (newer ++ (acted e ∷ []))
+  turn-long lots newer long = by deals
+    where
+      by : Deals s e t → Long lots now (newer ++ (acted e ∷ []))
+      by (nothing unsettled slots) =
+          quiet-long lots past newer (acted e) long unsettled (λ commit. unsettled (inl commit)) (λ close. unsettled (inr close))
+      by (comes commit did) =
+          rw (commit-list commit did)
+          (omega (arith, long, count-more isCommit newer (acted e) commit, count-same isClose newer (acted e) (no-commit-closes e commit)))
+      by (goes close did) =
+          rw (close-list close did)
+          (omega (
+            arith,
+            long,
+            without-length (struck close did) list (listed-once past) (listed close did),
+            count-more isClose newer (acted e) close,
+            count-same isCommit newer (acted e) (λ commit. no-commit-closes e commit close),
+          ))
 
 -- a retiring leaves the list and the slots
 pub retiring-lists :
@@ -278,7 +298,14 @@ pub retiring-lists :
     → Lists n past s
     → Lists n (past ++ (retired r ∷ [])) t
 retiring-lists n {r = r} past act known lists =
-    quiet-lists n past (retired r) lists (λ turn. turn) (λ turn. turn) (λ turn. turn) (retiring-slots act known)
+    quiet-lists n past (retired r) lists (λ turn. turn) (retiring-slots act known)
+
+-- and the list is as long as it was
+pub retiring-long :
+    (lots : ℕ) (past newer : List Entry) (r : Retiring)
+    → Long lots past newer
+    → Long lots (past ++ (retired r ∷ [])) (newer ++ (retired r ∷ []))
+retiring-long lots past newer r long = quiet-long lots past newer (retired r) long (λ turn. turn) (λ turn. turn) (λ turn. turn)
 
 -- a start leaves the list and the slots
 pub start-lists :
@@ -290,5 +317,4 @@ start-lists n past start lists =
     record {
       there = λ l inside. shows-on l (same-slots (start-cells start (bucketOf (l .lot) n))) (lists .there l inside);
       all = λ l shows. lists .all l (shows-on l (λ p. same-back (same-slots (start-cells start (bucketOf (l .lot) n)) p)) shows);
-      long = lists .long;
     }

@@ -17,14 +17,16 @@ use Rattle.turn.specs.Places.{claim, filled}
 use Rattle.turn.proofs.Outcomes.{Found, answers, refuses, gives-back, Empty, none, free, full, ready}
 use Rattle.turn.proofs.Outcomes.{Did, reads, loses, stores-value, stores-key, claims, commits, frees, closes}
 use Rattle.history.specs.Trace.{Turn, Retiring}
-use Rattle.history.specs.History.{State, Opening, Call, opened, recordOf, state, workersOf}
+use Rattle.history.specs.History.{State, Call, recordOf, state, workersOf}
 use Rattle.history.specs.Cells.{cellsAt, markAt, home, Holds}
 use Rattle.history.proofs.View.{new-record, old-record}
 use Rattle.history.proofs.States.{view}
+use Rattle.history.proofs.Ready.{Ready}
 use Rattle.history.proofs.Beginning.{history-good}
+use Rattle.history.proofs.Through.{Stretch}
 use Rattle.history.proofs.Steps.{Begins, Turns, Retires, stepOf, Lasts, calls-last}
 use Rattle.history.proofs.Account.{other-cells, turn-account, was-home, still-home}
-use Rattle.history.proofs.Cells.{holds-busy, opened-mark, retire-marks, retire-empties}
+use Rattle.history.proofs.Cells.{holds-busy, retire-marks, retire-empties}
 use Rattle.clerk.specs.Clerk.{IsHeldBy}
 use Rattle.clerk.proofs.Leads.{Leads, reads-leads}
 use Rattle.clerk.proofs.Leads as leads
@@ -254,12 +256,23 @@ marked-lasts =
 
 -- ---- histories
 
--- §17.8: after every opening and every list of calls a slot with mark 2 is held by a worker
-pub state-held :
-    (o : Opening) (calls : List Call) (b p : ℕ)
-    → markAt (state o calls) b p ≡ 2
-    → (i : ℕ) × (i < workersOf o) × IsHeldBy (state o calls) b p i
-state-held o calls b p two =
-    let unmarked : Marked (opened o) = λ b p two. absurd (omega (arith, two, opened-mark o b p)) in
-    let held = calls-last (λ s past ts. Marked s) marked-lasts calls (opened o) [] [] unmarked b p two in
-    (held .0, subst (λ (n : ℕ). held .0 < n) (history-good o calls .listed) (held .1), held .2)
+-- §17.8: wherever a stretch can begin and after every list of calls a slot with mark 2 is held by a worker
+state-held :
+    {first : State}
+    → Ready first
+    → (calls : List Call) (b p : ℕ)
+    → markAt (state first calls) b p ≡ 2
+    → (i : ℕ) × (i < workersOf first) × IsHeldBy (state first calls) b p i
+state-held {first} able calls b p two =
+    let unmarked : Marked first = λ b p two. absurd (able .unheld b p two) in
+    let held = calls-last (λ s past ts. Marked s) marked-lasts calls first [] [] unmarked b p two in
+    (held .0, subst (λ (n : ℕ). held .0 < n) (history-good able calls .listed) (held .1), held .2)
+
+-- §17.8: so in every state of a stretch
+pub stretch-held :
+    {s : State} (at : Stretch s) (b p : ℕ)
+    → markAt s b p ≡ 2
+    → (i : ℕ) × (i < workersOf (at .first)) × IsHeldBy s b p i
+stretch-held at b p two =
+    subst (λ (u : State). markAt u b p ≡ 2 → (i : ℕ) × (i < workersOf (at .first)) × IsHeldBy u b p i) (sym (at .is))
+    (state-held (at .ready) (at .since) b p) two

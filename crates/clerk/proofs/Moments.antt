@@ -7,8 +7,9 @@ use mathlib.Core.Path.{_≡_, refl, sym, ap, subst}
 use native.Mathlib.Decide.{ℕ-discrete}
 use native.Mathlib.Omega.{arith}
 use lib.ListN.{take, drop}
+use Rattle.engine.specs.Move.{Line}
 use Rattle.history.specs.Trace.{Entry, acted, IsTurn}
-use Rattle.clerk.specs.Does.{Line, line, Told, told, does}
+use Rattle.clerk.specs.Does.{line, Told, told, does}
 use Rattle.clerk.specs.Calls.{EndedCall, IsCallOf, Settles, isSettled, Fits, IsMomentOf, listAfter}
 use Rattle.clerk.specs.Sequence.{Placed, DoneAt}
 use Rattle.clerk.proofs.Enumerated.{first-before-last, last-turn}

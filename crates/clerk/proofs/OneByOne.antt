@@ -10,9 +10,10 @@ use lib.ListN.{length, take, drop, length-append, take-append-drop}
 use lib.Seq.{take-at, take-all, length-take-le}
 use Rattle.turn.specs.declared.Progress.{Progress}
 use Rattle.turn.specs.declared.Progress.the-variants.{GoesOn, Ended}
+use Rattle.engine.specs.Move.{Line}
 use Rattle.history.specs.Trace.{Turn, Entry, acted, retired, IsTurn}
 use Rattle.history.proofs.Numbered.{answered-ends}
-use Rattle.clerk.specs.Does.{Line, Told, does, answersTo, listLeft}
+use Rattle.clerk.specs.Does.{Told, does, answersTo, listLeft}
 use Rattle.clerk.specs.Calls.{EndedCall, IsCallOf, Fits, IsMomentOf, HasMoments, Settles, isSettled, listAfter}
 use Rattle.walks.specs.Lists.{Each}
 use Rattle.clerk.specs.Sequence.{Placed, DoneAt, OneByOne, doneUntil, askedIn, answeredIn}

@@ -1,7 +1,7 @@
 -- The mark word that a worker has in mind, beside the one on the board: how far the version has moved between the two, by commits and by
 -- retirings. While its version and its valid slots are still the board's, nobody has committed or closed there: the version is moved fewer
 -- than 2^32 times, so that it tells each of them, and what was closed comes back by a commit alone. Assumes nothing.
-use Prim.Native.Nat.{ℕ, _+_, _^_, _<_}
+use Prim.Native.Nat.{ℕ, _^_, _<_}
 use mathlib.Core.List.{List, [], _∷_, _++_}
 use mathlib.Core.Path.{_≡_, sym, ap, _∙_}
 use native.Mathlib.Decide.{ℕ-discrete}

@@ -5,8 +5,8 @@ use mathlib.Core.Path.{_≡_, subst}
 use native.Mathlib.Omega.{arith}
 use lib.ListN.{length, take, length-append}
 use lib.Seq.{take-append-le, take-length}
+use Rattle.engine.specs.Move.{Line}
 use Rattle.history.specs.Trace.{Entry}
-use Rattle.clerk.specs.Does.{Line}
 use Rattle.clerk.specs.Calls.{listAfter}
 
 -- P held of the list just after one of these turns, from turn `first` on

@@ -1,29 +1,28 @@
--- All that holds of an opened board, one clause a file; that every start, turn and retiring keeps it; and what follows for each turn of a history.
--- Assumes nothing.
+-- All that holds of an opened board, one clause a file; that every start, turn and retiring keeps it; that it holds where a stretch begins; and
+-- what follows for each turn of a history. Assumes nothing.
 use Prim.Native.Nat.{ℕ, _+_, _^_, _<_}
-use mathlib.Core.List.{List, [], _∷_, _++_}
+use mathlib.Core.List.{List, [], _∷_, _++_, append-assoc}
 use mathlib.Core.Logic.{inl, inr, _↔_}
-use mathlib.Core.Path.{_≡_, refl, sym, ap, subst, _∙_}
+use mathlib.Core.Path.{_≡_, refl, sym, subst, _∙_}
 use native.Mathlib.Omega.{arith}
+use lib.ListN.{length}
 use Rattle.turn.specs.declared.Worker.{Worker}
 use Rattle.turn.specs.declared.Progress.the-variants.{Ended}
-use Rattle.engine.specs.Board.{bucketOf}
+use Rattle.engine.specs.Board.{lotsOn}
 use Rattle.history.specs.Trace.{Turn, Retiring, Entry, acted, retired, IsTurn, total}
-use Rattle.history.specs.History.{State, Opening, Call, opened, recordOf, state, trace}
-use Rattle.history.specs.Values.{tickets}
+use Rattle.history.specs.History.{State, workersOf, bucketsOf, recordOf}
 use Rattle.history.specs.Cells.{cellsAt, home}
 use Rattle.history.proofs.View as walks
-use Rattle.history.proofs.View.{View, Acts}
+use Rattle.history.proofs.View.{Acts}
 use Rattle.history.proofs.States.{view}
 use Rattle.history.proofs.Counts.{bumpOf, onto, total-onto}
 use Rattle.history.proofs.Good.{Good, walk-good}
-use Rattle.history.proofs.Steps.{Begins, Turns, Retires, Lasts, calls-last}
+use Rattle.history.proofs.Steps.{Begins, Turns, Retires, Lasts}
 use Rattle.history.proofs.Spent.{Spent, spent-lasts}
-use Rattle.history.proofs.Opened.{opened-is}
-use Rattle.history.proofs.Beginning.{rests, opened-unaware, opened-good}
-use Rattle.history.proofs.NoValueComesBack.{opened-value, opened-spent}
-use Rattle.history.proofs.Cells.{Known, known-lasts, opened-mark, opened-known}
-use Rattle.history.proofs.Cuts.{no-cut}
+use Rattle.history.proofs.Ready.{Ready, rests, ready-unaware}
+use Rattle.history.proofs.Beginning.{ready-good}
+use Rattle.history.proofs.NoValueComesBack.{ready-spent}
+use Rattle.history.proofs.Cells.{Known, known-lasts, ready-known}
 use Rattle.history.proofs.Later.{CutLast, last, sooner, cut-last}
 use Rattle.clerk.specs.Does.{told, does, TellsChange}
 use Rattle.clerk.specs.Calls.{asks, Settles, listAfter}
@@ -35,7 +34,8 @@ use Rattle.clerk.proofs.Deals.{Deals, nothing, comes, goes, turn-deals}
 use Rattle.clerk.proofs.Recalls.{Recalled, turn-recalled, retiring-recalled, start-recalled}
 use Rattle.clerk.proofs.Knows.{Knowing, nothing-known, turn-knowing, retiring-knowing, start-knowing}
 use Rattle.clerk.proofs.Distinct.{Distinct, turn-distinct, retiring-distinct, start-distinct}
-use Rattle.clerk.proofs.Listing.{Lists, commit-answers, commit-tells, close-answers, close-tells, turn-lists, retiring-lists, start-lists}
+use Rattle.clerk.proofs.Listing.{Lists, Long, commit-answers, commit-tells, close-answers, close-tells, turn-lists, turn-long}
+use Rattle.clerk.proofs.Listing.{retiring-lists, retiring-long, start-lists}
 use Rattle.clerk.proofs.Tickets.{Tickets, turn-tickets, retiring-tickets, start-tickets}
 use Rattle.clerk.proofs.Seen.{Seen, turn-seen, retiring-seen, start-seen}
 use Rattle.clerk.proofs.Begun.{Begun, firstTurn, turn-begun, retiring-begun, start-begun}
@@ -58,23 +58,45 @@ pub record Right (past : List Entry) (e : Turn) : Type 0 where
   -- which of the two it was is told by the answer
   pub tells : (a : ℕ) → e .report .progress ≡ Ended a → Settles e ↔ TellsChange (asks (e .was)) a
 
+-- every turn of the past was right
+abbrev pub AllRight : List Entry → Type 0
+AllRight past = (before : List Entry) (e : Turn) (later : List Entry) → past ≡ before ++ (acted e ∷ later) → Right before e
+
+-- and so is every turn with an entry more, if that one is right where it is a turn
+right-on : (past : List Entry) (d : Entry) → AllRight past → ((e : Turn) → d ≡ acted e → Right past e) → AllRight (past ++ (d ∷ []))
+right-on past d old mine before e later cut = by (cut-last d (acted e) later past before cut)
+  where
+    by : CutLast past d before (acted e) → Right before e
+    by (last is at) = rw is (mine e (sym at))
+    by (sooner rest cut) = old before e rest cut
+
 -- ---- what holds all the time
 
--- a floor of so many workers and n buckets, opened at a version; the turns so far, and the tickets spent so far
-module _ (workers n version : ℕ) where
-  pub record Standing (s : State) (past : List Entry) (ts : List ℕ) : Type 0 where
+-- where the present stretch began in this state, as an opening or the last move that was done left it
+module _ (first : State) where
+  -- N
+  abbrev n : ℕ
+  n = bucketsOf first
+
+  -- what demand 3 follows from, over the entries of the stretch
+  abbrev Goes : State → List Entry → ℕ → Type 0
+  Goes s newer many = Good (workersOf first) n (view first .marks) (view s) (onto newer []) many
+
+  -- the entries since the opening, those of them since the stretch began, and the tickets spent since then
+  pub record Standing (s : State) (past newer : List Entry) (ts : List ℕ) : Type 0 where
     pub sized : Sized n s
     -- what demand 3 follows from, and what is known of slots and of tickets
     pub many : ℕ
-    pub good : Good workers n version (view s) (onto past []) many
+    pub good : Goes s newer many
     pub known : Known s
-    pub spent : Spent s past ts
+    pub spent : Spent (first .floor .last) s newer ts
     -- what each worker has in mind, and what it knows by it
-    pub recalled : Recalled n past s
+    pub recalled : Recalled n newer s
     pub knowing : Knowing n s
     -- valid slots, and the clerk's list
     pub distinct : Distinct s
     pub lists : Lists n past s
+    pub long : Long (lotsOn (first .board) n) past newer
     -- values, and what was seen of them
     pub tickets : Tickets n s
     pub seen : Seen n s
@@ -82,91 +104,74 @@ module _ (workers n version : ℕ) where
     pub begun : Begun past s
     pub founded : Founded n past s
     pub missing : Missing n past s
+    -- and that they were
+    pub right : AllRight past
 
   -- ---- a start
 
   begins-standing :
-      {s t : State} {v : Worker} {spent : List ℕ} (past : List Entry) (ts : List ℕ)
+      {s t : State} {v : Worker} {spent : List ℕ} (past newer : List Entry) (ts : List ℕ)
       → Begins s v spent t
-      → Standing s past ts
-      → Standing t past (ts ++ spent)
-  begins-standing past ts start old =
+      → Standing s past newer ts
+      → Standing t past newer (ts ++ spent)
+  begins-standing past newer ts start old =
       record {
         sized = start .buckets ∙ old .sized;
         many = _;
-        good = walk-good workers n version (walks.starts (start .starts) walks.stays) (onto past []) (old .many) (old .good);
-        known = known-lasts .begins past ts start (old .known);
-        spent = spent-lasts .begins past ts start (old .spent);
-        recalled = start-recalled n past start (old .recalled);
+        good =
+            walk-good (workersOf first) n (view first .marks) (walks.starts (start .starts) walks.stays) (onto newer []) (old .many) (old .good);
+        known = known-lasts .begins newer ts start (old .known);
+        spent = spent-lasts .begins newer ts start (old .spent);
+        recalled = start-recalled n newer start (old .recalled);
         knowing = start-knowing n start (old .knowing);
         distinct = start-distinct start (old .distinct);
         lists = start-lists n past start (old .lists);
+        long = old .long;
         tickets = start-tickets n start (old .tickets);
         seen = start-seen n start (old .seen);
         begun = start-begun past start (old .begun);
         founded = start-founded n past start (old .founded);
         missing = start-missing n past start (old .begun) (old .missing);
+        right = old .right;
       }
 
   -- ---- a turn
 
   -- with a turn more, the newest is the first
-  onto-then : (past : List Entry) (e : Entry) (older : List Entry) → onto (past ++ (e ∷ [])) older ≡ e ∷ onto past older
+  onto-then : (newer : List Entry) (e : Entry) (older : List Entry) → onto (newer ++ (e ∷ [])) older ≡ e ∷ onto newer older
   onto-then [] e older = refl
-  onto-then (x ∷ past) e older = onto-then past e (x ∷ older)
+  onto-then (x ∷ newer) e older = onto-then newer e (x ∷ older)
 
-  -- versions are moved less than 2^32 times, since each time has its ticket
-  few-moves : (s : View) {k : ℕ} (past : List Entry) → Good workers n version s (onto past []) k → bumpsIn past < 2 ^ 32
-  few-moves s past good = omega (arith, good .tickets, good .fits, total-onto bumpOf past [])
+  -- versions are moved less than 2^32 times since the stretch began, since each time has its ticket
+  few-moves : (s : State) {k : ℕ} (newer : List Entry) → Goes s newer k → bumpsIn newer < 2 ^ 32
+  few-moves s newer good = omega (arith, good .tickets, good .fits, total-onto bumpOf newer [])
 
   -- with an entry more, what demand 3 follows from holds still
   good-on :
-      {s : State} (t : State) (past : List Entry) (ts : List ℕ) (e : Entry) {v : Worker}
+      {s : State} (t : State) (past newer : List Entry) (ts : List ℕ) (e : Entry) {v : Worker}
       → Acts (s .floor .buckets) (view s) e v (view t)
-      → (old : Standing s past ts)
-      → Good workers n version (view t) (onto (past ++ (e ∷ [])) []) (0 + old .many)
-  good-on {s} t past ts e {v} act old =
-      subst (λ (es : List Entry). Good workers n version (view t) es (0 + old .many)) (sym (onto-then past e []))
-      (walk-good workers n version (walks.acts (subst (λ (k : ℕ). Acts k (view s) e v (view t)) (old .sized) act) walks.stays) (onto past []) (old .many)
-      (old .good))
+      → (old : Standing s past newer ts)
+      → Goes t (newer ++ (e ∷ [])) (0 + old .many)
+  good-on {s} t past newer ts e {v} act old =
+      subst (λ (es : List Entry). Good (workersOf first) n (view first .marks) (view t) es (0 + old .many)) (sym (onto-then newer e []))
+      (walk-good (workersOf first) n (view first .marks)
+      (walks.acts (subst (λ (k : ℕ). Acts k (view s) e v (view t)) (old .sized) act) walks.stays) (onto newer []) (old .many) (old .good))
 
-  module _ {s t : State} {e : Turn} (past : List Entry) (ts : List ℕ) (act : Turns s e t) (old : Standing s past ts) where
+  module _ {s t : State} {e : Turn} (past newer : List Entry) (ts : List ℕ) (act : Turns s e t) (old : Standing s past newer ts) where
     abbrev now : List Entry
     now = past ++ (acted e ∷ [])
 
-    good-then : Good workers n version (view t) (onto now []) (0 + old .many)
-    good-then = good-on t past ts (acted e) (act .acts) old
+    good-then : Goes t (newer ++ (acted e ∷ [])) (0 + old .many)
+    good-then = good-on t past newer ts (acted e) (act .acts) old
 
     known-then : Known t
-    known-then = known-lasts .turns past ts act (old .known)
+    known-then = known-lasts .turns newer ts act (old .known)
 
     lists-then : Lists n now t
     lists-then = turn-lists n past (old .sized) act (old .known) (old .knowing) (old .distinct) (old .lists)
 
     tickets-then : Tickets n t
-    tickets-then = turn-tickets n past ts (old .sized) act (old .spent) (old .tickets)
-
-    turns-standing : Standing t now ts
-    turns-standing =
-        let few = few-moves (view t) now good-then in
-        record {
-          sized = act .buckets ∙ old .sized;
-          many = 0 + old .many;
-          good = good-then;
-          known = known-then;
-          spent = spent-lasts .turns past ts act (old .spent);
-          recalled = turn-recalled n past (old .sized) act (turn-deals act (old .known)) (old .recalled);
-          knowing = turn-knowing n past (old .sized) act (old .known) few (old .recalled) (old .knowing);
-          distinct = turn-distinct n (old .sized) act (old .known) (old .knowing) (old .distinct);
-          lists = lists-then;
-          tickets = tickets-then;
-          seen = turn-seen n (old .sized) act known-then (old .tickets) tickets-then (old .seen);
-          begun = turn-begun past act (old .begun);
-          founded = turn-founded n past (old .sized) act (old .known) (old .seen) (old .begun) lists-then (old .founded);
-          missing =
-              turn-missing n past (old .sized) act (old .known) known-then (old .knowing) (old .distinct) (old .begun) lists-then
-              (old .missing);
-        }
+    tickets-then = turn-tickets n newer ts (old .sized) act (old .spent) (old .tickets)
 
     -- at some turn of the call the clerk gives this answer, and leaves the list
     answered :
@@ -205,117 +210,113 @@ module _ (workers n version : ℕ) where
         by (comes commit did) settles = commit-answers n past (old .sized) act (old .known) (old .knowing) (old .distinct) (old .lists) commit did
         by (goes close did) settles = close-answers n past (old .sized) act (old .known) (old .knowing) (old .distinct) (old .lists) close did
 
+    turns-standing : Standing t now (newer ++ (acted e ∷ [])) ts
+    turns-standing =
+        let few = few-moves t (newer ++ (acted e ∷ [])) good-then in
+        record {
+          sized = act .buckets ∙ old .sized;
+          many = 0 + old .many;
+          good = good-then;
+          known = known-then;
+          spent = spent-lasts .turns newer ts act (old .spent);
+          recalled = turn-recalled n newer (old .sized) act (turn-deals act (old .known)) (old .recalled);
+          knowing = turn-knowing n newer (old .sized) act (old .known) few (old .recalled) (old .knowing);
+          distinct = turn-distinct n (old .sized) act (old .known) (old .knowing) (old .distinct);
+          lists = lists-then;
+          long =
+              turn-long n past (old .sized) act (old .known) (old .knowing) (old .distinct) (old .lists) (lotsOn (first .board) n) newer
+              (old .long);
+          tickets = tickets-then;
+          seen = turn-seen n (old .sized) act known-then (old .tickets) tickets-then (old .seen);
+          begun = turn-begun past act (old .begun);
+          founded = turn-founded n past (old .sized) act (old .known) (old .seen) (old .begun) lists-then (old .founded);
+          missing =
+              turn-missing n past (old .sized) act (old .known) known-then (old .knowing) (old .distinct) (old .begun) lists-then
+              (old .missing);
+          right = right-on past (acted e) (old .right) (λ d is. subst (IsTurn (Right past)) is turns-right);
+        }
+
   -- ---- a retiring
 
   retires-standing :
-      {s t : State} {r : Retiring} (past : List Entry) (ts : List ℕ)
+      {s t : State} {r : Retiring} (past newer : List Entry) (ts : List ℕ)
       → Retires s r t
-      → Standing s past ts
-      → Standing t (past ++ (retired r ∷ [])) ts
-  retires-standing {t = t} {r} past ts act old =
-      let good-then = good-on t past ts (retired r) (act .acts) old in
-      let few = few-moves (view t) (past ++ (retired r ∷ [])) good-then in
+      → Standing s past newer ts
+      → Standing t (past ++ (retired r ∷ [])) (newer ++ (retired r ∷ [])) ts
+  retires-standing {t = t} {r} past newer ts act old =
+      let good-then = good-on t past newer ts (retired r) (act .acts) old in
+      let few = few-moves t (newer ++ (retired r ∷ [])) good-then in
       record {
         sized = act .buckets ∙ old .sized;
         many = 0 + old .many;
         good = good-then;
-        known = known-lasts .retires past ts act (old .known);
-        spent = spent-lasts .retires past ts act (old .spent);
-        recalled = retiring-recalled n past act (old .recalled);
-        knowing = retiring-knowing n past act (old .known) few (old .recalled) (old .knowing);
+        known = known-lasts .retires newer ts act (old .known);
+        spent = spent-lasts .retires newer ts act (old .spent);
+        recalled = retiring-recalled n newer act (old .recalled);
+        knowing = retiring-knowing n newer act (old .known) few (old .recalled) (old .knowing);
         distinct = retiring-distinct act (old .distinct);
         lists = retiring-lists n past act (old .known) (old .lists);
+        long = retiring-long (lotsOn (first .board) n) past newer r (old .long);
         tickets = retiring-tickets n act (old .tickets);
         seen = retiring-seen n act (old .seen);
         begun = retiring-begun past act (old .begun);
         founded = retiring-founded n past act (old .founded);
         missing = retiring-missing n past act (old .known) (old .missing);
+        right = right-on past (retired r) (old .right) (λ e is. absurd (subst (IsTurn (λ t. Unit {0})) (sym is) tt));
       }
 
-  -- ---- histories
+  -- ---- any number of them
 
-  -- all that holds, and every turn so far was right
-  pub record Stood (s : State) (past : List Entry) (ts : List ℕ) : Type 0 where
-    pub standing : Standing s past ts
-    pub turns : (before : List Entry) (e : Turn) (later : List Entry) → past ≡ before ++ (acted e ∷ later) → Right before e
-
-  stood-lasts : Lasts Stood
-  stood-lasts =
+  -- all of them keep it, whatever was done before the stretch began
+  pub standing-lasts : (older : List Entry) → Lasts (λ s newer ts. Standing s (older ++ newer) newer ts)
+  standing-lasts older =
       record {
-        begins = λ past ts start old. record { standing = begins-standing past ts start (old .standing); turns = old .turns };
-        turns = λ past ts act old.
-            record {
-              standing = turns-standing past ts act (old .standing);
-              turns = λ before d later cut. by past ts act old before d (cut-last _ (acted d) later past before cut);
-            };
-        retires = λ past ts act old.
-            record {
-              standing = retires-standing past ts act (old .standing);
-              turns = λ before d later cut. not-last past ts old before d (cut-last _ (acted d) later past before cut);
-            };
+        begins = λ newer ts start old. begins-standing (older ++ newer) newer ts start old;
+        turns = λ newer ts act old. moved-in _ newer ts _ (turns-standing (older ++ newer) newer ts act old);
+        retires = λ newer ts act old. moved-in _ newer ts _ (retires-standing (older ++ newer) newer ts act old);
       }
     where
-      by :
-          {s t : State} {e : Turn} (past : List Entry) (ts : List ℕ)
-          → Turns s e t
-          → Stood s past ts
-          → (before : List Entry) (d : Turn)
-          → CutLast past (acted e) before (acted d)
-          → Right before d
-      by past ts act old before d (last is at) =
-          rw is (subst (IsTurn (Right past)) (sym at) (turns-right past ts act (old .standing)))
-      by past ts act old before d (sooner rest cut) = old .turns before d rest cut
+      moved-in :
+          (t : State) (newer : List Entry) (ts : List ℕ) (e : Entry)
+          → Standing t ((older ++ newer) ++ (e ∷ [])) (newer ++ (e ∷ [])) ts
+          → Standing t (older ++ (newer ++ (e ∷ []))) (newer ++ (e ∷ [])) ts
+      moved-in t newer ts e = subst (λ (past : List Entry). Standing t past (newer ++ (e ∷ [])) ts) (append-assoc older newer (e ∷ []))
 
-      -- a retiring is no turn
-      not-last :
-          {s : State} {r : Retiring} (past : List Entry) (ts : List ℕ)
-          → Stood s past ts
-          → (before : List Entry) (d : Turn)
-          → CutLast past (retired r) before (acted d)
-          → Right before d
-      not-last past ts old before d (last is at) = absurd (subst (IsTurn (λ t. Unit {0})) at tt)
-      not-last past ts old before d (sooner rest cut) = old .turns before d rest cut
+-- ---- where a stretch begins
 
--- ---- an opening
-
-module _ (o : Opening) where
-  -- an opening leaves all of it so, with no turn behind it
-  opened-standing : Standing (o .plan .workers) (o .plan .buckets) (o .plan .version) (opened o) [] []
-  unfolding since total
-  opened-standing =
-      let n = o .plan .buckets in
-      let w : ℕ → Worker = recordOf (opened o) in
-      let c : ℕ → ℕ → ℕ = λ i. cellsAt (opened o) (home n (w i)) in
-      record {
-        sized = ap (λ (s : State). s .floor .buckets) (opened-is o);
-        many = 0;
-        good = opened-good o;
-        known = opened-known o;
-        spent = opened-spent o;
-        recalled = λ i aware. absurd (opened-unaware o i aware);
-        knowing = λ i other current. nothing-known (c i) (w i) (omega (arith, rests o i .place));
-        distinct = λ b p q other one. absurd (omega (arith, opened-mark o b p, one));
-        lists =
-            record {
-              there = λ l inside. absurd inside;
-              all = λ l shows. absurd (omega (arith, opened-mark o (bucketOf (l .lot) n) (shows .slot), shows .has .0));
-              long = refl;
-            };
-        tickets =
-            record {
-              values = λ b p few. omega (arith, opened-value o b p);
-              stands = λ i b p insert. absurd (omega (arith, insert, rests o i .kind));
-            };
-        seen = λ i from. absurd (omega (arith, from, rests o i .place));
-        begun = λ i. record { fresh = λ none. (omega (arith, rests o i .place), rests o i .slot); rests = λ is. refl };
-        founded = λ i. no-reasons (HadSince (since i []) [] (w i .key)) (c i) (w i) (omega (arith, rests o i .place));
-        missing = λ i some. absurd (omega arith);
-      }
-
-  -- after every opening and every list of calls all of it is so, and every turn was right
-  pub state-stood :
-      (calls : List Call)
-      → Stood (o .plan .workers) (o .plan .buckets) (o .plan .version) (state o calls) (trace o calls) (tickets o calls)
-  state-stood calls =
-      calls-last _ (stood-lasts (o .plan .workers) (o .plan .buckets) (o .plan .version)) calls (opened o) [] []
-      (record { standing = opened-standing; turns = λ before e later cut. absurd (no-cut before (acted e) later cut) })
+-- every worker rests there, so that all that is said of workers holds; what is left is said of the list and of what was done before
+pub ready-standing :
+    {first : State} (ready : Ready first) (past : List Entry)
+    → ((i : ℕ) → since i past ≡ 0)
+    → Distinct first
+    → Lists (bucketsOf first) past first
+    → length (listAfter past) ≡ lotsOn (first .board) (bucketsOf first)
+    → AllRight past
+    → Standing first first past [] []
+unfolding total
+ready-standing {first} ready past none distinct lists long right =
+    let n = bucketsOf first in
+    let w : ℕ → Worker = recordOf first in
+    let c : ℕ → ℕ → ℕ = λ i. cellsAt first (home n (w i)) in
+    record {
+      sized = refl;
+      many = 0;
+      good = ready-good ready;
+      known = ready-known ready;
+      spent = ready-spent ready;
+      recalled = λ i aware. absurd (ready-unaware ready i aware);
+      knowing = λ i other current. nothing-known (c i) (w i) (omega (arith, rests ready i .place));
+      distinct = distinct;
+      lists = lists;
+      long = omega (arith, long);
+      tickets =
+          record {
+            values = λ b p few. ready .values b p;
+            stands = λ i b p insert. absurd (omega (arith, insert, rests ready i .kind));
+          };
+      seen = λ i from. absurd (omega (arith, from, rests ready i .place));
+      begun = λ i. record { fresh = λ is. (omega (arith, rests ready i .place), rests ready i .slot); rests = λ is. none i };
+      founded = λ i. no-reasons (HadSince (since i past) past (w i .key)) (c i) (w i) (omega (arith, rests ready i .place));
+      missing = λ i some. absurd (omega (arith, some, none i));
+      right = right;
+    }

@@ -1,24 +1,21 @@
 -- Each call that ended, and each that its worker was retired from, was begun by a start that was accepted: a busy worker's start stands among
 -- the calls, it asks what the worker's record asks, and no call of that worker is over since. Assumes nothing.
 use Prim.Native.Nat.{ℕ, _+_}
-use mathlib.Core.Bool.{true}
 use mathlib.Core.List.{List, [], _∷_, _++_, append-assoc, append-nil}
 use mathlib.Core.Logic.{inl, inr}
 use mathlib.Core.Path.{_≡_, refl, sym, ap, subst, _∙_}
 use lib.ListN.{length}
-use Rattle.mark.proofs.Choices.{not-both}
 use Rattle.turn.specs.declared.Worker.{Worker}
 use Rattle.turn.specs.declared.Progress.{Progress}
 use Rattle.turn.specs.declared.Progress.the-variants.{GoesOn, Ended}
-use Rattle.turn.specs.Worker.{mayStand}
 use Rattle.history.specs.Trace.{Turn, Retiring, Entry, acted, retired, who, wasOf, By, OwnEnd, None}
 use Rattle.history.specs.InCall.{AtRest}
-use Rattle.history.specs.History.{State, Opening, Call, look, insert, remove, turn, retire, run, show, count, orders, askTotal, askNext, opened, recordOf}
-use Rattle.history.specs.History.{after, entries, stateFrom, traceFrom, state, trace}
+use Rattle.history.specs.History.{State, Call, look, insert, remove, turn, retire, run, show, count, orders, askTotal, askNext, recordOf, after, entries}
+use Rattle.history.specs.Moves.{Step, calls, moves, afterStep, entriesBy, stateThrough, traceThrough}
 use Rattle.history.proofs.View.{each-worker}
 use Rattle.history.proofs.States.{view}
-use Rattle.history.proofs.Beginning.{rests}
-use Rattle.history.proofs.Histories.{stateFrom-then, traceFrom-then}
+use Rattle.history.proofs.Ready.{Ready, rests}
+use Rattle.history.proofs.Through.{stateThrough-then, traceThrough-then}
 use Rattle.history.proofs.Cuts.{no-cut, none-nil, none-more}
 use Rattle.history.proofs.Later.{CutLast, last, sooner, cut-last, none-last}
 use Rattle.history.proofs.Numbered.{answered-ends}
@@ -30,25 +27,25 @@ use Rattle.clerk.specs.Clerk.{IsStart, looks, inserts, removes, Start, B
 use Rattle.clerk.proofs.Since.{firstOr, since, first-since}
 use Rattle.clerk.proofs.Rests.{rest-on, awaits}
 use Rattle.clerk.proofs.Enumerated.{callOf, call-is, cut-at-end, one-call-an-end}
-use Rattle.clerk.proofs.Steps.{each-turn, each-retiring, goes-asks}
+use Rattle.clerk.proofs.Steps.{busy-kind, each-turn, each-retiring, goes-asks}
 use Rattle.clerk.proofs.Starting.{Tried, taken, refused, start-tried}
 
 -- ---- the call that a start began
 
-module _ (o : Opening) (calls : List Call) (start : Start o calls) where
+module _ (first : State) (steps : List Step) (start : Start first steps) where
   abbrev before : List Entry
-  before = trace o (start .earlier)
+  before = traceThrough first (start .earlier)
 
   -- where its worker was at rest before a start, the first turn since then that ends a call of that worker ends the one that the start began
   pub begun-by :
       (between : List Entry) (e : Turn) (later : List Entry) (answer : ℕ)
-      → trace o calls ≡ (before ++ between) ++ (acted e ∷ later)
+      → traceThrough first steps ≡ (before ++ between) ++ (acted e ∷ later)
       → AtRest (start .worker) before
       → None (OwnEnd (start .worker)) between
       → By (start .worker) (acted e)
       → asks (e .was) ≡ start .asked
       → e .report .progress ≡ Ended answer
-      → BegunBy o calls start (callOf (before ++ between) e answer)
+      → BegunBy first steps start (callOf (before ++ between) e answer)
   begun-by between e later answer cut rested unended own asked ended =
       let i = start .worker in
       let past = before ++ between in
@@ -56,14 +53,14 @@ module _ (o : Opening) (calls : List Call) (start : Start o calls) where
       let same : past ≡ (before ++ a .waiting) ++ a .rest =
       ap (λ (l : List Entry). before ++ l) (a .is) ∙ sym (append-assoc before (a .waiting) (a .rest)) in
       record {
-        is = call-is (trace o calls) past e later cut answer ended;
+        is = call-is (traceThrough first steps) past e later cut answer ended;
         worker = own;
         asked = asked;
         waiting = a .waiting;
         rest = a .rest ++ (acted e ∷ later);
         turns = cut ∙ ap (λ (l : List Entry). l ++ (acted e ∷ later)) same ∙ simp append-assoc;
         others = a .others;
-        first =
+        first-turn =
             ap (λ (j : ℕ). firstOr (since j past) (length past + 1)) own
             ∙ ap (λ (l : List Entry). firstOr (since i l) (length l + 1)) same
             ∙ first-since i (before ++ a .waiting) (a .rest) (rest-on i before (a .waiting) (a .others) rested) (a .begins) (a .unended);
@@ -71,51 +68,46 @@ module _ (o : Opening) (calls : List Call) (start : Start o calls) where
 
 -- ---- where the call that a worker is at began
 
--- a record that may have a turn is of a call
-busy-kind : (k p : ℕ) → mayStand k p ≡ true → k ≡ 0 → ⊥
-unfolding mayStand
-busy-kind k p stands none = not-both _ refl (rw none at stands)
-
-module _ (o : Opening) where
-  -- after these calls and turns worker i is at the call that w asks, and has been since a start among the calls
-  record AtCall (calls : List Call) (i : ℕ) (w : Worker) (past : List Entry) : Type 0 where
-    start : Start o calls
+module _ (first : State) where
+  -- after these calls and moves and their turns worker i is at the call that w asks, and has been since a start among them
+  record AtCall (steps : List Step) (i : ℕ) (w : Worker) (past : List Entry) : Type 0 where
+    start : Start first steps
     own : start .worker ≡ i
     asked : asks w ≡ start .asked
     -- the worker was at no call then, and has ended none since
-    rested : AtRest (start .worker) (trace o (start .earlier))
+    rested : AtRest (start .worker) (traceThrough first (start .earlier))
     between : List Entry
-    turns : past ≡ trace o (start .earlier) ++ between
+    turns : past ≡ traceThrough first (start .earlier) ++ between
     unended : None (OwnEnd (start .worker)) between
 
   -- worker i with record w is at no call, or at one that began so
-  record Stays (calls : List Call) (i : ℕ) (w : Worker) (past : List Entry) : Type 0 where
+  record Stays (steps : List Step) (i : ℕ) (w : Worker) (past : List Entry) : Type 0 where
     rests : w .kind ≡ 0 → AtRest i past
-    works : (w .kind ≡ 0 → ⊥) → AtCall calls i w past
+    works : (w .kind ≡ 0 → ⊥) → AtCall steps i w past
 
   -- it is so of each worker, and each turn and each retiring so far was of a call that began so
-  record Traced (calls : List Call) (s : State) (past : List Entry) : Type 0 where
-    each : (i : ℕ) → Stays calls i (recordOf s i) past
-    turns : (before : List Entry) (e : Entry) (later : List Entry) → past ≡ before ++ (e ∷ later) → AtCall calls (who e) (wasOf e) before
+  record Traced (steps : List Step) (s : State) (past : List Entry) : Type 0 where
+    each : (i : ℕ) → Stays steps i (recordOf s i) past
+    turns : (before : List Entry) (e : Entry) (later : List Entry) → past ≡ before ++ (e ∷ later) → AtCall steps (who e) (wasOf e) before
 
-  -- ---- one call more
+  -- ---- one call or move more
 
-  module _ (calls : List Call) (c : Call) where
-    -- a start among the calls is still among them
-    abbrev start-then : Start o calls → Start o (calls ++ (c ∷ []))
+  module _ (steps : List Step) (a : Step) where
+    -- a start among them is still among them
+    abbrev start-then : Start first steps → Start first (steps ++ (a ∷ []))
     start-then start =
         record {
           earlier = start .earlier;
           call = start .call;
-          later = start .later ++ (c ∷ []);
-          cut = ap (λ (l : List Call). l ++ (c ∷ [])) (start .cut) ∙ append-assoc (start .earlier) (start .call ∷ start .later) (c ∷ []);
+          later = start .later ++ (a ∷ []);
+          cut = ap (λ (l : List Step). l ++ (a ∷ [])) (start .cut) ∙ append-assoc (start .earlier) (calls (start .call) ∷ start .later) (a ∷ []);
           worker = start .worker;
           asked = start .asked;
           is = start .is;
           accepted = start .accepted;
         }
 
-    begun-then : {i : ℕ} {w : Worker} {past : List Entry} → AtCall calls i w past → AtCall (calls ++ (c ∷ [])) i w past
+    begun-then : {i : ℕ} {w : Worker} {past : List Entry} → AtCall steps i w past → AtCall (steps ++ (a ∷ [])) i w past
     begun-then b =
         record {
           start = start-then (b .start);
@@ -127,18 +119,18 @@ module _ (o : Opening) where
           unended = b .unended;
         }
 
-    stays-then : {i : ℕ} {w : Worker} {past : List Entry} → Stays calls i w past → Stays (calls ++ (c ∷ [])) i w past
+    stays-then : {i : ℕ} {w : Worker} {past : List Entry} → Stays steps i w past → Stays (steps ++ (a ∷ [])) i w past
     stays-then stays = record { rests = stays .rests; works = λ busy. begun-then (stays .works busy) }
 
-    traced-then : {s : State} {past : List Entry} → Traced calls s past → Traced (calls ++ (c ∷ [])) s past
+    traced-then : {s : State} {past : List Entry} → Traced steps s past → Traced (steps ++ (a ∷ [])) s past
     traced-then old =
         record { each = λ i. stays-then (old .each i); turns = λ before e later cut. begun-then (old .turns before e later cut) }
 
   -- ---- a turn
 
-  module _ (calls : List Call) (i : ℕ) (w : Worker) (past : List Entry) where
+  module _ (steps : List Step) (i : ℕ) (w : Worker) (past : List Entry) where
     -- a turn that does not end the call leaves it under way
-    begun-on : (v : Worker) (e : Entry) → asks v ≡ asks w → (OwnEnd i e → ⊥) → AtCall calls i w past → AtCall calls i v (past ++ (e ∷ []))
+    begun-on : (v : Worker) (e : Entry) → asks v ≡ asks w → (OwnEnd i e → ⊥) → AtCall steps i w past → AtCall steps i v (past ++ (e ∷ []))
     begun-on v e same goes b =
         record {
           start = b .start;
@@ -146,12 +138,12 @@ module _ (o : Opening) where
           asked = same ∙ b .asked;
           rested = b .rested;
           between = b .between ++ (e ∷ []);
-          turns = ap (λ (l : List Entry). l ++ (e ∷ [])) (b .turns) ∙ append-assoc (trace o (b .start .earlier)) (b .between) (e ∷ []);
+          turns = ap (λ (l : List Entry). l ++ (e ∷ [])) (b .turns) ∙ append-assoc (traceThrough first (b .start .earlier)) (b .between) (e ∷ []);
           unended = none-last (OwnEnd (b .start .worker)) (b .between) e (b .unended) (λ end. goes (end .0 ∙ b .own, end .1));
         }
 
     -- another worker's turn leaves a worker at rest, or its call under way
-    stays-on : (e : Entry) → (By i e → ⊥) → Stays calls i w past → Stays calls i w (past ++ (e ∷ []))
+    stays-on : (e : Entry) → (By i e → ⊥) → Stays steps i w past → Stays steps i w (past ++ (e ∷ []))
     stays-on e other old =
         record {
           rests = λ none. rest-on i past (e ∷ []) (none-more (By i) e [] other (none-nil (By i))) (old .rests none);
@@ -160,34 +152,34 @@ module _ (o : Opening) where
 
   -- an entry more, of a call that began so
   traced-on :
-      (calls : List Call) (past : List Entry) (e : Entry)
-      → AtCall calls (who e) (wasOf e) past
-      → ((before : List Entry) (d : Entry) (later : List Entry) → past ≡ before ++ (d ∷ later) → AtCall calls (who d) (wasOf d) before)
+      (steps : List Step) (past : List Entry) (e : Entry)
+      → AtCall steps (who e) (wasOf e) past
+      → ((before : List Entry) (d : Entry) (later : List Entry) → past ≡ before ++ (d ∷ later) → AtCall steps (who d) (wasOf d) before)
       → (before : List Entry) (d : Entry) (later : List Entry)
       → past ++ (e ∷ []) ≡ before ++ (d ∷ later)
-      → AtCall calls (who d) (wasOf d) before
-  traced-on calls past e mine old before d later cut = by (cut-last e d later past before cut)
+      → AtCall steps (who d) (wasOf d) before
+  traced-on steps past e mine old before d later cut = by (cut-last e d later past before cut)
     where
-      by : CutLast past e before d → AtCall calls (who d) (wasOf d) before
-      by (last is at) = rw is (subst (λ (x : Entry). AtCall calls (who x) (wasOf x) past) (sym at) mine)
+      by : CutLast past e before d → AtCall steps (who d) (wasOf d) before
+      by (last is at) = rw is (subst (λ (x : Entry). AtCall steps (who x) (wasOf x) past) (sym at) mine)
       by (sooner rest cut) = old before d rest cut
 
-  module _ (calls : List Call) {s t : State} {e : Turn} (past : List Entry) (act : Turns s e t) (old : Traced calls s past) where
+  module _ (steps : List Step) {s t : State} {e : Turn} (past : List Entry) (act : Turns s e t) (old : Traced steps s past) where
     abbrev v : Worker
     v = stepOf s e .stepped .worker
 
     works-was : e .was .kind ≡ 0 → ⊥
     works-was = busy-kind _ _ (act .ok .sound .stands)
 
-    begun-was : AtCall calls (e .worker) (e .was) past
-    begun-was = subst (λ (w : Worker). Stays calls (e .worker) w past) (sym (act .acts .was)) (old .each (e .worker)) .works works-was
+    begun-was : AtCall steps (e .worker) (e .was) past
+    begun-was = subst (λ (w : Worker). Stays steps (e .worker) w past) (sym (act .acts .was)) (old .each (e .worker)) .works works-was
 
     -- a worker whose turn goes on is at the same call, and one whose turn ends its call is at none
-    mine : (p : Progress) → e .report .progress ≡ p → Stays calls (e .worker) v (past ++ (acted e ∷ []))
+    mine : (p : Progress) → e .report .progress ≡ p → Stays steps (e .worker) v (past ++ (acted e ∷ []))
     mine GoesOn goes =
         record {
           rests = λ none. absurd (works-was (sym (still-on act (goes-busy act goes) .call .kind) ∙ none));
-          works = λ some. begun-on calls (e .worker) (e .was) past v (acted e) (goes-asks act goes) (λ end. end .1 goes) begun-was;
+          works = λ some. begun-on steps (e .worker) (e .was) past v (acted e) (goes-asks act goes) (λ end. end .1 goes) begun-was;
         }
     mine (Ended answer) over =
         record {
@@ -196,145 +188,164 @@ module _ (o : Opening) where
           works = λ some. absurd (some (ap (λ (x : Worker). x .kind) (ended-idle act answer over)));
         }
 
-    turn-traced : Traced calls t (past ++ (acted e ∷ []))
+    turn-traced : Traced steps t (past ++ (acted e ∷ []))
     turn-traced =
         record {
           each =
-              each-turn act (λ (j : ℕ) (u : Worker). Stays calls j u (past ++ (acted e ∷ [])))
-              (mine (e .report .progress) refl) (λ j other. stays-on calls j (recordOf s j) past (acted e) (λ own. other (sym own)) (old .each j));
-          turns = traced-on calls past (acted e) begun-was (old .turns);
+              each-turn act (λ (j : ℕ) (u : Worker). Stays steps j u (past ++ (acted e ∷ [])))
+              (mine (e .report .progress) refl) (λ j other. stays-on steps j (recordOf s j) past (acted e) (λ own. other (sym own)) (old .each j));
+          turns = traced-on steps past (acted e) begun-was (old .turns);
         }
 
   -- ---- a retiring
 
-  module _ (calls : List Call) {s t : State} {r : Retiring} (past : List Entry) (act : Retires s r t) (old : Traced calls s past) where
+  module _ (steps : List Step) {s t : State} {r : Retiring} (past : List Entry) (act : Retires s r t) (old : Traced steps s past) where
     abbrev now : List Entry
     now = past ++ (retired r ∷ [])
 
-    retired-was : AtCall calls (r .worker) (r .was) past
+    retired-was : AtCall steps (r .worker) (r .was) past
     retired-was =
-        subst (λ (w : Worker). Stays calls (r .worker) w past) (sym (act .acts .was)) (old .each (r .worker)) .works
+        subst (λ (w : Worker). Stays steps (r .worker) w past) (sym (act .acts .was)) (old .each (r .worker)) .works
         (busy-kind _ _ (act .ok .sound .stands))
 
-    retire-traced : Traced calls t now
+    retire-traced : Traced steps t now
     retire-traced =
         record {
           each =
-              each-retiring act (λ (j : ℕ) (u : Worker). Stays calls j u now)
+              each-retiring act (λ (j : ℕ) (u : Worker). Stays steps j u now)
               (record {
                 rests = λ none.
                     inr (record { older = past; entry = retired r; newer = []; cut = refl; holds = (refl, (λ goes. goes), none-nil (By (r .worker))) });
                 works = λ some. absurd (some refl);
               })
-              (λ j other. stays-on calls j (recordOf s j) past (retired r) (λ own. other (sym own)) (old .each j));
-          turns = traced-on calls past (retired r) retired-was (old .turns);
+              (λ j other. stays-on steps j (recordOf s j) past (retired r) (λ own. other (sym own)) (old .each j));
+          turns = traced-on steps past (retired r) retired-was (old .turns);
         }
 
   -- ---- a start
 
-  module _ (calls : List Call) (old : Traced calls (state o calls) (trace o calls)) where
+  module _ (steps : List Step) (old : Traced steps (stateThrough first steps) (traceThrough first steps)) where
     abbrev s : State
-    s = state o calls
+    s = stateThrough first steps
 
     -- after a start, accepted or refused, every worker is still at no call or at one that began so
-    start-traced : (i : ℕ) (asked : Asked) (c : Call) → IsStart i asked c → Traced (calls ++ (c ∷ [])) (after s c) (trace o calls)
+    start-traced : (i : ℕ) (asked : Asked) (c : Call) → IsStart i asked c → Traced (steps ++ (calls c ∷ [])) (after s c) (traceThrough first steps)
     start-traced i asked c is = by (start-tried s is)
       where
-        by : Tried s i asked c → Traced (calls ++ (c ∷ [])) (after s c) (trace o calls)
-        by (refused none same) = rw same (traced-then calls c old)
+        by : Tried s i asked c → Traced (steps ++ (calls c ∷ [])) (after s c) (traceThrough first steps)
+        by (refused none same) = rw same (traced-then steps (calls c) old)
         by (taken accepted new) =
             record {
               each =
-                  each-worker (view s) (view (after s c)) i (new .new) (new .records) (λ (j : ℕ) (u : Worker). Stays (calls ++ (c ∷ [])) j u (trace o calls)) (new .within)
+                  each-worker (view s) (view (after s c)) i (new .new) (new .records)
+                  (λ (j : ℕ) (u : Worker). Stays (steps ++ (calls c ∷ [])) j u (traceThrough first steps)) (new .within)
                   (record {
                     rests = λ none. absurd (new .busy none);
                     works = λ some. record {
-                      start = record { earlier = calls; call = c; later = []; cut = refl; worker = i; asked = asked; is = is; accepted = accepted };
+                      start = record { earlier = steps; call = c; later = []; cut = refl; worker = i; asked = asked; is = is; accepted = accepted };
                       own = refl;
                       asked = new .asks-it;
                       rested = old .each i .rests (ap (λ (x : Worker). x .kind) (new .was));
                       between = [];
-                      turns = sym (append-nil (trace o calls));
+                      turns = sym (append-nil (traceThrough first steps));
                       unended = none-nil (OwnEnd i);
                     };
                   })
-                  (λ j other. stays-then calls c (old .each j));
-              turns = λ before e later cut. begun-then calls c (old .turns before e later cut);
+                  (λ j other. stays-then steps (calls c) (old .each j));
+              turns = λ before e later cut. begun-then steps (calls c) (old .turns before e later cut);
             }
 
     -- ---- any call
 
-    call-traced : (c : Call) → Traced (calls ++ (c ∷ [])) (after s c) (trace o calls ++ entries s c)
-    call-traced (look i lot) = rw (append-nil (trace o calls)) (start-traced i _ (look i lot) (looks lot))
-    call-traced (insert i lot t) = rw (append-nil (trace o calls)) (start-traced i _ (insert i lot t) (inserts lot t))
-    call-traced (remove i lot) = rw (append-nil (trace o calls)) (start-traced i _ (remove i lot) (removes lot))
+    call-traced : (c : Call) → Traced (steps ++ (calls c ∷ [])) (after s c) (traceThrough first steps ++ entries s c)
+    call-traced (look i lot) = rw (append-nil (traceThrough first steps)) (start-traced i _ (look i lot) (looks lot))
+    call-traced (insert i lot t) = rw (append-nil (traceThrough first steps)) (start-traced i _ (insert i lot t) (inserts lot t))
+    call-traced (remove i lot) = rw (append-nil (traceThrough first steps)) (start-traced i _ (remove i lot) (removes lot))
     call-traced (turn i) =
-        turn-lasts (λ (s : State) (past : List Entry) (ts : List ℕ). Traced (calls ++ (turn i ∷ [])) s past)
-        (λ s t e past ts act traced. turn-traced _ past act traced) s i (trace o calls) [] (traced-then calls (turn i) old)
+        turn-lasts (λ (s : State) (past : List Entry) (ts : List ℕ). Traced (steps ++ (calls (turn i) ∷ [])) s past)
+        (λ s t e past ts act traced. turn-traced _ past act traced) s i (traceThrough first steps) [] (traced-then steps (calls (turn i)) old)
     call-traced (retire i) =
-        by-retiring s i (λ (t : State) (es : List Entry). Traced (calls ++ (retire i ∷ [])) t (trace o calls ++ es))
-        (λ r t act. retire-traced _ (trace o calls) act (traced-then calls (retire i) old)) (rw (append-nil (trace o calls)) (traced-then calls (retire i) old))
+        by-retiring s i (λ (t : State) (es : List Entry). Traced (steps ++ (calls (retire i) ∷ [])) t (traceThrough first steps ++ es))
+        (λ r t act. retire-traced _ (traceThrough first steps) act (traced-then steps (calls (retire i)) old))
+        (rw (append-nil (traceThrough first steps)) (traced-then steps (calls (retire i)) old))
     call-traced (run turns) =
-        run-lasts (λ (s : State) (past : List Entry) (ts : List ℕ). Traced (calls ++ (run turns ∷ [])) s past)
-        (λ s t e past ts act traced. turn-traced _ past act traced) s turns (trace o calls) [] (traced-then calls (run turns) old)
-    call-traced (show lot) = rw (append-nil (trace o calls)) (traced-then calls (show lot) old)
-    call-traced count = rw (append-nil (trace o calls)) (traced-then calls count old)
-    call-traced (orders depth) = rw (append-nil (trace o calls)) (traced-then calls (orders depth) old)
-    call-traced askTotal = rw (append-nil (trace o calls)) (traced-then calls askTotal old)
-    call-traced (askNext from) = rw (append-nil (trace o calls)) (traced-then calls (askNext from) old)
+        run-lasts (λ (s : State) (past : List Entry) (ts : List ℕ). Traced (steps ++ (calls (run turns) ∷ [])) s past)
+        (λ s t e past ts act traced. turn-traced _ past act traced) s turns (traceThrough first steps) []
+        (traced-then steps (calls (run turns)) old)
+    call-traced (show lot) = rw (append-nil (traceThrough first steps)) (traced-then steps (calls (show lot)) old)
+    call-traced count = rw (append-nil (traceThrough first steps)) (traced-then steps (calls count) old)
+    call-traced (orders depth) = rw (append-nil (traceThrough first steps)) (traced-then steps (calls (orders depth)) old)
+    call-traced askTotal = rw (append-nil (traceThrough first steps)) (traced-then steps (calls askTotal) old)
+    call-traced (askNext from) = rw (append-nil (traceThrough first steps)) (traced-then steps (calls (askNext from)) old)
+
+    -- a move leaves the records, and has no turn
+    step-traced : (a : Step) → Traced (steps ++ (a ∷ [])) (afterStep s a) (traceThrough first steps ++ entriesBy s a)
+    step-traced (calls c) = call-traced c
+    step-traced (moves m) =
+        rw (append-nil (traceThrough first steps))
+        (record {
+          each = λ i. stays-then steps (moves m) (old .each i);
+          turns = λ before e later cut. begun-then steps (moves m) (old .turns before e later cut);
+        })
 
   -- ---- histories
 
-  -- it is so after these calls
-  abbrev TracedAll : List Call → Type 0
-  TracedAll calls = Traced calls (state o calls) (trace o calls)
+  -- it is so after these calls and moves
+  abbrev TracedAll : List Step → Type 0
+  TracedAll steps = Traced steps (stateThrough first steps) (traceThrough first steps)
 
-  more-traced : (calls : List Call) (c : Call) → TracedAll calls → TracedAll (calls ++ (c ∷ []))
-  more-traced calls c old =
-      subst (λ (t : State). Traced (calls ++ (c ∷ [])) t (trace o (calls ++ (c ∷ [])))) (sym (stateFrom-then (opened o) calls c))
-      (subst (Traced (calls ++ (c ∷ [])) _) (sym (traceFrom-then (opened o) calls c)) (call-traced calls old c))
+  more-traced : (steps : List Step) (a : Step) → TracedAll steps → TracedAll (steps ++ (a ∷ []))
+  more-traced steps a old =
+      subst (λ (t : State). Traced (steps ++ (a ∷ [])) t (traceThrough first (steps ++ (a ∷ [])))) (sym (stateThrough-then first steps a))
+      (subst (Traced (steps ++ (a ∷ [])) _) (sym (traceThrough-then first steps a)) (step-traced steps old a))
 
-  calls-traced : (more calls : List Call) → TracedAll calls → TracedAll (calls ++ more)
-  calls-traced [] calls old = subst TracedAll (sym (append-nil calls)) old
-  calls-traced (c ∷ more) calls old =
-      subst TracedAll (append-assoc calls (c ∷ []) more) (calls-traced more (calls ++ (c ∷ [])) (more-traced calls c old))
+  steps-traced : (more steps : List Step) → TracedAll steps → TracedAll (steps ++ more)
+  steps-traced [] steps old = subst TracedAll (sym (append-nil steps)) old
+  steps-traced (a ∷ more) steps old =
+      subst TracedAll (append-assoc steps (a ∷ []) more) (steps-traced more (steps ++ (a ∷ [])) (more-traced steps a old))
 
-  opened-traced : TracedAll []
-  unfolding stateFrom traceFrom
-  opened-traced =
-      record {
-        each = λ i. record { rests = λ none. inl (none-nil (By i)); works = λ busy. absurd (busy (rests o i .kind)) };
-        turns = λ before e later cut. absurd (no-cut before e later cut);
-      }
+  module _ (ready : Ready first) where
+    first-traced : TracedAll []
+    unfolding stateThrough traceThrough
+    first-traced =
+        record {
+          each = λ i. record { rests = λ none. inl (none-nil (By i)); works = λ busy. absurd (busy (rests ready i .kind)) };
+          turns = λ before e later cut. absurd (no-cut before e later cut);
+        }
 
-  all-traced : (calls : List Call) → TracedAll calls
-  all-traced calls = calls-traced calls [] opened-traced
+    all-traced : (steps : List Step) → TracedAll steps
+    all-traced steps = steps-traced steps [] first-traced
 
-  -- a worker that is at no call after some calls is at rest after their turns
-  pub rests-then : (calls : List Call) (i : ℕ) → recordOf (state o calls) i .kind ≡ 0 → AtRest i (trace o calls)
-  rests-then calls i = all-traced calls .each i .rests
+    -- a worker that is at no call after some calls and moves is at rest after their turns
+    pub rests-then : (steps : List Step) (i : ℕ) → recordOf (stateThrough first steps) i .kind ≡ 0 → AtRest i (traceThrough first steps)
+    rests-then steps i = all-traced steps .each i .rests
 
 -- §17.3: each call that ended was begun by a start that was accepted
 pub calls-started :
-    (o : Opening) (calls : List Call) (c : EndedCall) → IsCallOf (trace o calls) c → (start : Start o calls) × BegunBy o calls start c
-calls-started o calls c is =
+    {first : State} (ready : Ready first) (steps : List Step) (c : EndedCall)
+    → IsCallOf (traceThrough first steps) c
+    → (start : Start first steps) × BegunBy first steps start c
+calls-started {first} ready steps c is =
     let at = is .at in
     let e = at .turn in
     let past = at .before ++ at .between in
-    let cut : trace o calls ≡ past ++ (acted e ∷ at .after) = cut-at-end (trace o calls) at in
-    let b = all-traced o calls .turns past (acted e) (at .after) cut in
-    let now = trace o (b .start .earlier) ++ b .between in
-    let cut-now : trace o calls ≡ now ++ (acted e ∷ at .after) = cut ∙ ap (λ (l : List Entry). l ++ (acted e ∷ at .after)) (b .turns) in
-    let begun = begun-by o calls (b .start) (b .between) e (at .after) (c .answer) cut-now (b .rested) (b .unended) (sym (b .own)) (b .asked) (is .answer) in
+    let cut : traceThrough first steps ≡ past ++ (acted e ∷ at .after) = cut-at-end (traceThrough first steps) at in
+    let b = all-traced first ready steps .turns past (acted e) (at .after) cut in
+    let now = traceThrough first (b .start .earlier) ++ b .between in
+    let cut-now : traceThrough first steps ≡ now ++ (acted e ∷ at .after) = cut ∙ ap (λ (l : List Entry). l ++ (acted e ∷ at .after)) (b .turns) in
+    let begun =
+    begun-by first steps (b .start) (b .between) e (at .after) (c .answer) cut-now (b .rested) (b .unended) (sym (b .own)) (b .asked)
+    (is .answer) in
     let same : callOf now e (c .answer) ≡ c =
-    one-call-an-end (trace o calls) _ c (begun .is) is (sym (is .last ∙ ap (λ (l : List Entry). length l + 1) (b .turns))) in
-    (b .start, subst (BegunBy o calls (b .start)) same begun)
+    one-call-an-end (traceThrough first steps) _ c (begun .is) is (sym (is .last ∙ ap (λ (l : List Entry). length l + 1) (b .turns))) in
+    (b .start, subst (BegunBy first steps (b .start)) same begun)
 
 -- §19.6: each retiring was from the call of a start that was accepted
-pub retirings-started : (o : Opening) (calls : List Call) (at : AtRetiring (trace o calls)) → RetiredAt o calls at
-retirings-started o calls at =
+pub retirings-started :
+    {first : State} (ready : Ready first) (steps : List Step) (at : AtRetiring (traceThrough first steps)) → RetiredAt first steps at
+retirings-started {first} ready steps at =
     let r = at .retiring in
-    let b = all-traced o calls .turns (at .before) (retired r) (at .after) (at .cut) in
+    let b = all-traced first ready steps .turns (at .before) (retired r) (at .after) (at .cut) in
     record {
       start = b .start;
       from =
@@ -345,7 +356,7 @@ retirings-started o calls at =
             turns =
                 at .cut
                 ∙ ap (λ (l : List Entry). l ++ (retired r ∷ at .after)) (b .turns)
-                ∙ append-assoc (trace o (b .start .earlier)) (b .between) (retired r ∷ at .after);
+                ∙ append-assoc (traceThrough first (b .start .earlier)) (b .between) (retired r ∷ at .after);
             worker = sym (b .own);
             asks-it = b .asked;
             unended = b .unended;

@@ -1,10 +1,12 @@
 -- One step of a history, as every clause of the invariant takes it: what holds of the worker's own record and of each other one. On a board
 -- of n buckets. Assumes nothing.
 use Prim.Native.Nat.{ℕ}
+use mathlib.Core.Bool.{true}
 use mathlib.Core.List.{List}
-use mathlib.Core.Path.{_≡_, ap, subst, _∙_}
+use mathlib.Core.Path.{_≡_, refl, ap, subst, _∙_}
+use Rattle.mark.proofs.Choices.{not-both}
 use Rattle.turn.specs.declared.Worker.{Worker}
-use Rattle.turn.specs.Worker.{idle}
+use Rattle.turn.specs.Worker.{idle, mayStand}
 use Rattle.turn.proofs.Outcomes.{Did}
 use Rattle.engine.specs.Board.{bucketOf}
 use Rattle.history.specs.Trace.{Turn, Retiring, acted, Continues}
@@ -15,6 +17,11 @@ use Rattle.history.proofs.States.{view}
 use Rattle.history.proofs.Steps.{Begins, Turns, Retires, stepOf}
 use Rattle.history.proofs.Account.{turn-account, was-home, goes-busy, still-on}
 use Rattle.clerk.specs.Calls.{asks}
+
+-- a record that may have a turn is of a call
+pub busy-kind : (k p : ℕ) → mayStand k p ≡ true → k ≡ 0 → ⊥
+unfolding mayStand
+busy-kind k p stands none = not-both _ refl (rw none at stands)
 
 -- a state whose board has n buckets
 abbrev pub Sized : ℕ → State → Type 0

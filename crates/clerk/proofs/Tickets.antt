@@ -74,8 +74,8 @@ module _ (n : ℕ) {s t : State} {e : Turn} (act : Turns s e t) where
       (λ j other insert. record { insert = insert; ticket = refl; own = λ b p few own. own })
 
 module _
-    (n : ℕ) {s t : State} {e : Turn} (past : List Entry) (ts : List ℕ) (sized : Sized n s) (act : Turns s e t) (spent : Spent s past ts)
-    (old : Tickets n s) where
+    (n : ℕ) {low : ℕ} {s t : State} {e : Turn} (past : List Entry) (ts : List ℕ) (sized : Sized n s) (act : Turns s e t)
+    (spent : Spent low s past ts) (old : Tickets n s) where
   abbrev w : Worker
   w = e .was
 

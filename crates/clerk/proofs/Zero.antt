@@ -140,7 +140,7 @@ module _
 
   mine : 1 ≤ since i now → Missed n now t (since i now) v
   mine some =
-      let busy : v ≡ idle → ⊥ = λ is. let none = own-under past act .rests is in omega arith in
+      let busy : v ≡ idle → ⊥ = λ is. let none = own-under past act .rests (ap (λ (u : Worker). u .kind) is) in omega arith in
       subst (λ (first : ℕ). Missed n now t first v) (sym (busy-since past act busy)) (mine-busy busy own-before)
 
   -- another worker, with its lot ahead
@@ -280,7 +280,8 @@ pub start-missing :
     → Missing n past t
 start-missing n {s} {t} past start begun every =
     each-start start (λ j u. 1 ≤ since j past → Missed n past t (since j past) u)
-    (λ some. absurd (let none = begun (start .starts .who) .rests (start .starts .was) in omega arith)) (λ j other some. by j (every j some))
+    (λ some. absurd (let none = begun (start .starts .who) .rests (ap (λ (u : Worker). u .kind) (start .starts .was)) in omega arith))
+    (λ j other some. by j (every j some))
   where
     -- a worker that starts holds no slot
     not-here : (x : Worker) → NotHere n s x → NotHere n t x

@@ -11,11 +11,12 @@ use lib.ListN.{length, take}
 use Rattle.turn.specs.declared.Worker.{Worker}
 use Rattle.turn.specs.declared.Progress.the-variants.{Ended}
 use Rattle.turn.specs.Worker.{lookKind, insertKind}
+use Rattle.engine.specs.Move.{Line}
 use Rattle.history.specs.Trace.{Turn, Entry, acted, wasOf, Commits, Closes, IsTurn, By}
 use Rattle.history.specs.Counts.{either?, turn?, isCommit, isClose}
 use Rattle.history.specs.Moment.{AtTurn}
 use Rattle.history.specs.InCall.{InCall}
-use Rattle.clerk.specs.Does.{Line, Asked, look, insert, remove, told, does}
+use Rattle.clerk.specs.Does.{Asked, look, insert, remove, told, does}
 
 -- ---- the clerk's list after a trace
 

@@ -5,13 +5,9 @@ use mathlib.Core.Bool.{Bool, false, cond, _||_}
 use mathlib.Core.List.{List, [], _∷_}
 use mathlib.Core.Path.{_≡_}
 use lib.Dec.{eqb}
+use Rattle.engine.specs.Move.{Line}
 
--- a line of the clerk's list: a lot with its ticket
-pub record Line : Type 0 where
-  pub lot : ℕ
-  pub ticket : ℕ
-
--- this lot with this ticket
+-- a line of the clerk's list: this lot with this ticket
 abbrev pub line : ℕ → ℕ → Line
 line lot ticket = record { lot = lot; ticket = ticket }
 

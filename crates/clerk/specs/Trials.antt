@@ -1,15 +1,17 @@
--- Trials P6, P8 and P11 as the clerk does them one by one; a look that answers a ticket which is no longer there when it ends; and a look that
--- answers 0 although its lot is there both when it begins and when it ends. A line for each call: who, from which turn to which, what was
--- asked, the answer, and the turn at which the clerk does it.
+-- Trials P6, P8 and P11 as the clerk does them one by one; a look that answers a ticket which is no longer there when it ends; a look that
+-- answers 0 although its lot is there both when it begins and when it ends; and a remove after a move. A line for each call: who, from which
+-- turn to which, what was asked, the answer, and the turn at which the clerk does it.
 use Prim.Native.Nat.{ℕ}
 use mathlib.Core.Bool.{false}
-use mathlib.Core.List.{List, [], _∷_}
+use mathlib.Core.List.{List, [], _∷_, _++_}
+use lib.ListN.{replicate}
 use Rattle.turn.specs.declared.Action.the-variants.{Read}
 use Rattle.turn.specs.declared.Progress.the-variants.{Ended}
 use Rattle.turn.specs.Worker.{lookFor}
 use Rattle.history.specs.Trace.{Entry, acted}
 use Rattle.history.specs.History as History
 use Rattle.history.specs.History.{Call, ticket}
+use Rattle.history.specs.Moves.{Lent, Step, calls, moves}
 use Rattle.history.specs.Trials.{A, B, C, turnsOf}
 use Rattle.clerk.specs.Does.{Asked, look, insert, remove}
 use Rattle.clerk.specs.Calls.{EndedCall}
@@ -102,6 +104,28 @@ lookInTheGapSequence =
     ∷ record { call = gapLook; moment = 35 }
     ∷ placed 0 36 46 (insert 7 3) 1 46
     ∷ []
+
+-- a second board of two buckets, with something on it
+abbrev pub twoBuckets : Lent
+twoBuckets = record { words = replicate 16 1; buckets = 2 }
+
+-- §22: lot 7 is inserted on a board of one bucket; a move while the insert is under way, and one when it has ended
+abbrev pub insertThenMove : List Step
+insertThenMove =
+    calls (History.insert 0 7 (ticket 1))
+    ∷ calls (turnsOf 0 9)
+    ∷ moves twoBuckets
+    ∷ calls (turnsOf 0 2)
+    ∷ moves twoBuckets
+    ∷ []
+
+-- §22: and it is removed from the board of two
+abbrev pub removeAfterMove : List Step
+removeAfterMove = insertThenMove ++ (calls (History.remove 1 7) ∷ calls (turnsOf 1 4) ∷ [])
+
+-- §22.7: the remove answers the ticket of the insert, as if there had been no move
+abbrev pub removeAfterMoveSequence : List Placed
+removeAfterMoveSequence = placed 0 1 11 (insert 7 1) 1 11 ∷ placed 1 12 15 (remove 7) 1 15 ∷ []
 
 -- a trace that no engine of the rules can leave: a look's only turn, on an empty board, which ends with the answer 5
 abbrev pub madeUp : List Entry

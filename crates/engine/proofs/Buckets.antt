@@ -1,18 +1,15 @@
 -- The board bucket by bucket: what an opening has laid out so far, what was found broken, what was counted. Assumes nothing.
 use Prim.Native.Nat.{ℕ, zero, suc, _+_, _*_, _≤_, _<_}
-use mathlib.Core.Bool.{true, false, _||_, or-true}
-use mathlib.Core.Path.{_≡_, refl, sym, ap, ap₂, subst, _∙_}
+use mathlib.Core.Path.{_≡_, refl, sym, ap, ap₂, _∙_}
 use mathlib.Core.List.{List, _++_, append-assoc, append-nil}
 use native.Mathlib.Omega.{arith}
 use native.Mathlib.Nat.{add-zero}
 use native.Mathlib.Numerals.{add-one}
-use native.Mathlib.Decide.{ℕ-discrete}
 use lib.ListN.{length, take, drop, getD, length-append, length-drop, drop-of-length-le}
-use lib.Seq.{take-at, drop-at, drop-drop}
+use lib.Seq.{length-take-le, take-all, take-at, take-add, drop-at, drop-drop}
 use Rattle.mark.specs.Word.{countMarks}
-use Rattle.mark.proofs.Choices.{first-holds}
-use Rattle.turn.specs.Bucket.{brokenBucket, cell, markCell}
-use Rattle.engine.specs.Board.{bucketAt, withBucket, emptyBucket, openedBoard, lotsOn, anyBroken}
+use Rattle.turn.specs.Bucket.{cell, markCell}
+use Rattle.engine.specs.Board.{bucketAt, withBucket, emptyBucket, openedBoard, lotsOn}
 use Rattle.engine.proofs.Cut.{bucket-word}
 
 -- ---- an opening
@@ -24,41 +21,46 @@ module _ (v : ℕ) where
   length-opened zero = refl
   length-opened (suc n) = let rest = length-opened n in omega arith
 
-  opened-more : (n : ℕ) → openedBoard n v ++ emptyBucket v ≡ openedBoard (suc n) v
+  -- each bucket is empty
+  pub opened-bucket : (n b : ℕ) → b < n → bucketAt (openedBoard n v) b ≡ emptyBucket v
   unfolding openedBoard
-  opened-more zero = refl
-  opened-more (suc n) = ap (λ (l : List ℕ). emptyBucket v ++ l) (opened-more n)
+  opened-bucket zero b under = absurd (omega arith)
+  opened-bucket (suc n) zero under = refl
+  opened-bucket (suc n) (suc b) under =
+      let more : 8 * suc b ≡ 8 + 8 * b = omega arith in
+      rw (more, ← drop-drop (8 * b) 8 (emptyBucket v ++ openedBoard n v)) (opened-bucket n b (omega arith))
 
-  -- so many buckets are laid out, and the rest of the board is as it was
-  abbrev pub laid : List ℕ → ℕ → List ℕ
-  laid board n = openedBoard n v ++ drop (8 * n) board
+-- ---- a board that is laid out bucket by bucket
 
-  module _ (board : List ℕ) (b : ℕ) where
-    front : take (8 * b) (laid board b) ≡ openedBoard b v
-    front = take-at (openedBoard b v) (drop (8 * b) board) (8 * b) (length-opened b)
+module _ (new board : List ℕ) where
+  -- so many buckets are laid out as the new board has them, and the rest of the board is as it was
+  abbrev pub laid : ℕ → List ℕ
+  laid b = take (8 * b) new ++ drop (8 * b) board
 
-    rest : drop (8 * b) (laid board b) ≡ drop (8 * b) board
-    rest = drop-at (openedBoard b v) (drop (8 * b) board) (8 * b) (length-opened b)
+  module _ (b : ℕ) (there : 8 * b ≤ length new) where
+    front : length (take (8 * b) new) ≡ 8 * b
+    front = length-take-le (8 * b) new there
 
     next-start : 8 * b + 8 ≡ 8 * (b + 1)
     next-start = omega arith
 
     -- the next bucket is laid out
-    pub lay-next : withBucket (laid board b) b (emptyBucket v) ≡ laid board (b + 1)
+    pub lay-next : withBucket (laid b) b (bucketAt new b) ≡ laid (b + 1)
     lay-next =
-        ap₂ (λ (x y : List ℕ). x ++ (emptyBucket v ++ drop 8 y)) front rest
-        ∙ sym (append-assoc (openedBoard b v) (emptyBucket v) (drop 8 (drop (8 * b) board)))
-        ∙ ap₂ (λ (x y : List ℕ). x ++ y) (opened-more b ∙ ap (λ (n : ℕ). openedBoard n v) (sym (add-one b)))
+        ap₂ (λ (x y : List ℕ). x ++ (bucketAt new b ++ drop 8 y)) (take-at (take (8 * b) new) (drop (8 * b) board) (8 * b) front)
+        (drop-at (take (8 * b) new) (drop (8 * b) board) (8 * b) front)
+        ∙ sym (append-assoc (take (8 * b) new) (bucketAt new b) (drop 8 (drop (8 * b) board)))
+        ∙ ap₂ (λ (x y : List ℕ). x ++ y) (sym (take-add (8 * b) 8 new) ∙ ap (λ (n : ℕ). take n new) next-start)
         (drop-drop 8 (8 * b) board ∙ ap (λ (n : ℕ). drop n board) next-start)
 
     -- the board is as long as it was
-    pub laid-long : 8 * b ≤ length board → length (laid board b) ≡ length board
-    laid-long within = length-append (openedBoard b v) (drop (8 * b) board) ∙ simp (length-opened b, length-drop (8 * b) board) (omega arith)
+    pub laid-long : 8 * b ≤ length board → length (laid b) ≡ length board
+    laid-long within = length-append (take (8 * b) new) (drop (8 * b) board) ∙ simp (front, length-drop (8 * b) board) (omega arith)
 
-    -- no bucket is left
-    pub laid-all : length board ≡ 8 * b → laid board b ≡ openedBoard b v
-    laid-all long =
-        ap (λ (l : List ℕ). openedBoard b v ++ l) (drop-of-length-le board {i = 8 * b} (omega arith)) ∙ append-nil (openedBoard b v)
+  -- no bucket is left
+  pub laid-all : (b : ℕ) → length board ≡ 8 * b → length new ≡ 8 * b → laid b ≡ new
+  laid-all b long new-long =
+      ap₂ (λ (x y : List ℕ). x ++ y) (take-all (8 * b) new (omega arith)) (drop-of-length-le board {i = 8 * b} (omega arith)) ∙ append-nil new
 
 -- ---- a count
 
@@ -71,24 +73,3 @@ module _ (board : List ℕ) where
   pub lots-next : (b : ℕ) → lotsOn board b + countMarks 1 (getD board (8 * b) 0) ≡ lotsOn board (b + 1)
   unfolding lotsOn
   lots-next b = rw (add-one b, mark-at b)
-
-  -- one bucket more that is not broken
-  pub broken-next : (b : ℕ) → anyBroken board b ≡ false → brokenBucket (bucketAt board b) ≡ false → anyBroken board (b + 1) ≡ false
-  unfolding anyBroken
-  broken-next b none is = rw (add-one b, none) is
-
-  last-or :
-      (b n : ℕ)
-      → b < suc n
-      → Dec (b ≡ n)
-      → brokenBucket (bucketAt board b) ≡ true
-      → (b < n → anyBroken board n ≡ true)
-      → (anyBroken board n || brokenBucket (bucketAt board n)) ≡ true
-  last-or b n within (yes e) is less = rw (subst (λ (k : ℕ). brokenBucket (bucketAt board k) ≡ true) e is) (or-true (anyBroken board n))
-  last-or b n within (no other) is less = first-holds (anyBroken board n) _ (less (omega arith))
-
-  -- one broken bucket is enough
-  pub broken-at : (b n : ℕ) → b < n → brokenBucket (bucketAt board b) ≡ true → anyBroken board n ≡ true
-  unfolding anyBroken
-  broken-at b zero within is = absurd (omega arith)
-  broken-at b (suc n) within is = last-or b n within (ℕ-discrete b n) is (λ less. broken-at b n less is)

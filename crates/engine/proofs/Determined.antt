@@ -18,7 +18,8 @@ use Rattle.engine.specs.declared.Started.{Started}
 use Rattle.engine.specs.declared.Totals.{Totals}
 use Rattle.engine.specs.declared.Touched.{Touched}
 use Rattle.engine.specs.declared.Counted.{Counted}
-use Rattle.engine.specs.Promises.{BlankMade, FloorLaid, StartDone, TurnTried, TurnTested, WorkerRetired, RetireTested, BucketTouched, NoneCounted, TurnCounted, RunTested, ShowTested, ShowPlaced, Shown, CountDone}
+use Rattle.engine.specs.declared.Moved.{Moved}
+use Rattle.engine.specs.Promises.{BlankMade, FloorLaid, StartDone, TurnTried, TurnTested, WorkerRetired, RetireTested, BucketTouched, NoneCounted, TurnCounted, RunTested, ShowTested, ShowPlaced, Shown, CountDone, LotsMoved, RestTested}
 
 -- the blank record
 pub blank-determined : (r t : Worker) → BlankMade r → BlankMade t → r ≡ t
@@ -31,6 +32,18 @@ pub open-determined :
     → FloorLaid board f listed plan c t
     → (b ≡ c) × (r ≡ t)
 open-determined board f listed plan b c r t p q = one-outcome (p .whole) (q .whole)
+
+-- a move: the board, and what is handed back
+pub move-determined :
+    (old board : List ℕ) (f : Floor) (listed rest n : ℕ) (b c : List ℕ) (r t : Moved)
+    → LotsMoved old board f listed rest n b r
+    → LotsMoved old board f listed rest n c t
+    → (b ≡ c) × (r ≡ t)
+move-determined old board f listed rest n b c r t p q = one-outcome (p .whole) (q .whole)
+
+-- the number that the records give a move, with one more
+pub rest-determined : (number : ℕ) (w : Worker) (r t : ℕ) → RestTested number w r → RestTested number w t → r ≡ t
+rest-determined number w r t p q = one-answer (p .whole) (q .whole)
 
 -- a look, an insert and a remove: the record, the floor and the number
 pub start-determined :

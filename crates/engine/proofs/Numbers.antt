@@ -1,4 +1,5 @@
--- A turn's answer, and the promise of a count, from their equations: the number that the answer tells is the tests' own. Assumes nothing.
+-- A turn's answer, and the promises of a count and of a move, from their equations: the number that the answer tells is the tests' own. Assumes
+-- nothing.
 use Prim.Native.Nat.{ℕ}
 use mathlib.Core.Path.{_≡_, refl, sym, ap, _∙_}
 use mathlib.Core.List.{List}
@@ -6,14 +7,16 @@ use lib.Dec.{eqb}
 use borrow.Author.Tests.{eqb-true}
 use Rattle.mark.proofs.Choices.{by-cases}
 use Rattle.turn.specs.declared.Worker.{Worker}
-use Rattle.turn.specs.Turn.{Turned, after, numberOf}
+use Rattle.turn.specs.Turn.{Turned, After, after, numberOf}
 use Rattle.turn.proofs.Numbers.{numberIn, number-told}
 use Rattle.engine.specs.declared.Floor.{Floor}
 use Rattle.engine.specs.declared.Seat.{Seat}
 use Rattle.engine.specs.declared.Counted.{Counted}
 use Rattle.engine.specs.Refusals.{turnNumber, countNumber}
 use Rattle.engine.specs.Calls.{turned, turnCall, countCall, countedNumber}
-use Rattle.engine.specs.Promises.{CountDone}
+use Rattle.engine.specs.declared.Moved.{Moved}
+use Rattle.engine.specs.Move.{movedBy, moveCall}
+use Rattle.engine.specs.Promises.{CountDone, LotsMoved}
 
 -- the number that a turn's answer tells
 pub turn-number :
@@ -41,3 +44,17 @@ count-done board f r whole =
     let told : countedNumber (countCall board f) ≡ n =
     by-cases (λ (x : Counted). countedNumber x ≡ n) (eqb n 0) _ _ (λ is. sym (eqb-true n 0 is)) (λ isnot. refl) in
     record { whole = whole; number = ap countedNumber whole ∙ told }
+
+-- the number that a move hands back is the one that it has
+pub moved-number : (number : ℕ) (old : List ℕ) (f : Floor) (n : ℕ) (board : List ℕ) → movedBy number old f n board .handed .refusal ≡ number
+moved-number number old f n board =
+    by-cases (λ (x : After Moved). x .handed .refusal ≡ number) (eqb number 0) _ _ (λ is. sym (eqb-true number 0 is)) (λ isnot. refl)
+
+-- a move
+pub lots-moved :
+    (old board : List ℕ) (f : Floor) (listed rest n : ℕ) (board′ : List ℕ) (r : Moved)
+    → after board′ r ≡ moveCall old board f listed rest n
+    → LotsMoved old board f listed rest n board′ r
+unfolding moveCall
+lots-moved old board f listed rest n board′ r whole =
+    record { whole = whole; number = ap (λ (x : After Moved). x .handed .refusal) whole ∙ moved-number _ old f n board }

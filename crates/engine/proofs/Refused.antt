@@ -13,6 +13,7 @@ use Rattle.engine.specs.declared.Plan.{Plan}
 use Rattle.engine.specs.declared.Seat.{Seat}
 use Rattle.engine.specs.declared.Counted.the-variants.{Refusal}
 use Rattle.engine.specs.Refusals.{openNumber, startNumber, turnNumber, retireNumber, runNumber, showNumber, countNumber}
+use Rattle.engine.specs.Move.{moveNumber, moveCall}
 use Rattle.engine.specs.Calls.{planned, openCall, startCall, turned, turnCall, retired, retireCall, unbegun, runCall, showCall, countCall}
 
 -- a number other than 0 chooses the refusal
@@ -60,6 +61,15 @@ module _ (board : List ℕ) (s : Seat) (w : Worker) where
       → retireCall board s w ≡ after board (notRetired (retireNumber (s .floor) board (s .listed) (s .worker) w) w)
   unfolding retireCall retired
   retire-refused = refuses _ _ _
+
+-- a move
+pub move-refused :
+    (old board : List ℕ) (f : Floor) (listed rest n : ℕ)
+    → let number = moveNumber f old listed rest n board in
+    (number ≡ 0 → ⊥)
+    → moveCall old board f listed rest n ≡ after board (record { floor = f; refusal = number })
+unfolding moveCall
+move-refused old board f listed rest n = refuses _ _ _
 
 module _ (board : List ℕ) (f : Floor) where
   -- a show

@@ -32,7 +32,11 @@ unfoldable pub lotsOn : List ℕ → ℕ → ℕ
 lotsOn board zero = 0
 lotsOn board (suc b) = lotsOn board b + countMarks 1 (cell (bucketAt board b) markCell)
 
+-- whether a test holds of one of the first n numbers
+unfoldable pub anyUnder : (ℕ → Bool) → ℕ → Bool
+anyUnder test zero = false
+anyUnder test (suc b) = anyUnder test b || test b
+
 -- §6.7: whether one of the first n buckets is broken
-unfoldable pub anyBroken : List ℕ → ℕ → Bool
-anyBroken board zero = false
-anyBroken board (suc b) = anyBroken board b || brokenBucket (bucketAt board b)
+abbrev pub anyBroken : List ℕ → ℕ → Bool
+anyBroken board n = anyUnder (λ b. brokenBucket (bucketAt board b)) n

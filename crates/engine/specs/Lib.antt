@@ -1,7 +1,9 @@
 pub mod Board
 pub mod Refusals
 pub mod Calls
+pub mod Move
 pub mod Promises
 pub mod Reports
 pub mod Room
 pub mod Firsts
+pub mod Seating

@@ -16,8 +16,19 @@ use Rattle.engine.specs.declared.Started.{Started}
 use Rattle.engine.specs.declared.Totals.{Totals}
 use Rattle.engine.specs.declared.Touched.{Touched}
 use Rattle.engine.specs.declared.Counted.{Counted}
+use Rattle.engine.specs.declared.Moved.{Moved}
 use Rattle.engine.specs.Refusals.{turnNumber, retireNumber, runRefusal, showNumber, countNumber}
+use Rattle.engine.specs.Move.{restWith, moveNumber, moveCall}
 use Rattle.engine.specs.Calls.{blank, layCall, tryCall, retireCall, touchedBy, noTurns, tallied, cappedTotals, showCall, showStart, wordsOn, countCall, countedNumber}
+
+-- a move: the old board, the new board before and after, and what is handed back, where the records give this number, or 0
+pub record LotsMoved (old board : List ℕ) (f : Floor) (listed rest n : ℕ) (board′ : List ℕ) (r : Moved) : Type 0 where
+  pub whole : after board′ r ≡ moveCall old board f listed rest n
+  pub number : r .refusal ≡ moveNumber f old listed rest n board
+
+-- the number that the records give a move, with one more
+pub record RestTested (number : ℕ) (w : Worker) (r : ℕ) : Type 0 where
+  pub whole : r ≡ restWith number w
 
 -- what stands for a record past the end of a list
 pub record BlankMade (r : Worker) : Type 0 where

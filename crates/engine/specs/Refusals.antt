@@ -1,7 +1,7 @@
 -- The numbers of refusal: for each call the first that applies, in its order, or 0.
 use Prim.Native.Nat.{ℕ, _*_}
-use mathlib.Core.Bool.{Bool, cond, _&&_, _||_, not}
-use mathlib.Core.List.{List}
+use mathlib.Core.Bool.{Bool, false, cond, _&&_, _||_, not}
+use mathlib.Core.List.{List, [], _∷_}
 use lib.ListN.{length}
 use lib.Dec.{eqb, leb, ltb}
 use Rattle.turn.specs.Worker.{isIdle, broken, within}
@@ -11,6 +11,11 @@ use Rattle.turn.specs.Retire.{retireRefusal}
 use Rattle.turn.specs.declared.Worker.{Worker}
 use Rattle.engine.specs.declared.Floor.{Floor}
 use Rattle.engine.specs.Board.{bucketOf, bucketAt, anyBroken}
+
+-- whether a test holds of one of the records
+unfoldable pub anyRecord : (Worker → Bool) → List Worker → Bool
+anyRecord test [] = false
+anyRecord test (w ∷ ws) = test w || anyRecord test ws
 
 -- §6.1, §2.1, §2.2: too few or too many workers or buckets, or another number of words than eight for each bucket
 abbrev pub wrongWords : Floor → ℕ → Bool

@@ -5,7 +5,7 @@ ghost use lib.ListN.{length};
 ghost use Rattle.engine.specs.Board.{emptyBucket, openedBoard};
 
 // §2.10: one empty bucket at a version.
-fn clear(bucket: &mut [u64], version: u32)
+pub fn clear(bucket: &mut [u64], version: u32)
     requires { ⌜ length (now bucket) ≡ 8 ⌝ }
     ensures { λ r. ⌜ now (bucket .exit) ≡ emptyBucket version ⌝ }
 {

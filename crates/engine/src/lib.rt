@@ -3,7 +3,7 @@ ghost use mathlib.Core.Path.{_≡_};
 ghost use mathlib.Core.Bool.{cond};
 ghost use Rattle.engine.specs.Refusals.{seatNumber, recordNumber, startRefusal};
 ghost use Rattle.engine.specs.Calls.{startMade, lookCall, insertCall, removeCall};
-ghost use Rattle.engine.specs.Promises.{BlankMade, FloorLaid, StartDone, TurnTried, TurnTested, WorkerRetired, RetireTested, BucketTouched, RunTested, Shown, ShowPlaced, ShowTested, CountDone};
+ghost use Rattle.engine.specs.Promises.{LotsMoved, RestTested, BlankMade, FloorLaid, StartDone, TurnTried, TurnTested, WorkerRetired, RetireTested, BucketTouched, RunTested, Shown, ShowPlaced, ShowTested, CountDone};
 use turn::Retired;
 use turn::Tried;
 use turn::Worker;
@@ -16,13 +16,15 @@ mod size; // whether floor, board and list fit together
 mod lay; // an opened board
 mod take; // a turn or a retiring on the board
 mod lots; // the lots on the board
+mod moving; // the lots on a second board
 
-// §2.1: the number of workers W, the number of buckets N, and the last ticket.
+// §2.1: the number of workers W, the number of buckets N, the last ticket, and the version that the opening gave every bucket.
 #[repr(C)]
 pub struct Floor {
     pub workers: usize,
     pub buckets: usize,
     pub last: u32,
+    pub version: u32,
 }
 
 // What an opening asks for.
@@ -57,6 +59,12 @@ pub struct Laid {
 // What a start hands back: the record and the floor as they now stand, and the number of refusal, or 0.
 pub struct Started {
     pub worker: Worker,
+    pub floor: Floor,
+    pub refusal: u8,
+}
+
+// §22.3: what a move hands back: the floor as it now stands, and the number of refusal, or 0.
+pub struct Moved {
     pub floor: Floor,
     pub refusal: u8,
 }
@@ -108,6 +116,7 @@ pub fn open_floor(board: &mut [u64], floor: Floor, listed: usize, plan: Plan) ->
         workers: plan.workers,
         buckets: plan.buckets,
         last: 0,
+        version: plan.version,
     };
     if size::are_wrong(opened, board.len(), listed) {
         return Laid {
@@ -351,4 +360,66 @@ pub fn count(board: &[u64], floor: Floor) -> Counted
         return Counted::Refusal(refusal::WRONG_SIZES);
     }
     lots::count(board, floor.buckets)
+}
+
+// §6.3, §6.12: the number that the records give a move, with one more: the records before it give this one.
+pub fn rest_refusal(number: u8, w: Worker) -> u8
+    ensures { λ r. ⌜ RestTested number w r ⌝ }
+{
+    if number == refusal::BROKEN_RECORD {
+        return number;
+    }
+    if record::is_idle(w) {
+        return number;
+    }
+    if record::is_sound(w) {
+        return refusal::NOT_AT_REST;
+    }
+    refusal::BROKEN_RECORD
+}
+
+// §22.1: moves the lots of one board to another of so many buckets, where the records of the list give this number, or 0.
+pub fn move_lots(
+    old: &[u64],
+    board: &mut [u64],
+    floor: Floor,
+    listed: usize,
+    rest: u8,
+    buckets: usize,
+) -> Moved
+    ensures { λ r. ⌜ LotsMoved (now (old .entry)) (now (board .entry)) floor listed rest buckets (now (board .exit)) r ⌝ }
+{
+    let mut after = floor;
+    after.buckets = buckets;
+    if size::are_wrong(floor, old.len(), listed) {
+        return Moved {
+            floor,
+            refusal: refusal::WRONG_SIZES,
+        };
+    }
+    if size::has_wrong_words(after, board.len()) {
+        return Moved {
+            floor,
+            refusal: refusal::WRONG_SIZES,
+        };
+    }
+    if rest != 0 {
+        return Moved {
+            floor,
+            refusal: rest,
+        };
+    }
+    let mut from = [moving::FREE; moving::SEATS];
+    let number = moving::seat_all(old, &mut from, floor.buckets, buckets);
+    if number != 0 {
+        return Moved {
+            floor,
+            refusal: number,
+        };
+    }
+    moving::lay_all(old, board, &from, floor.buckets, buckets, floor.version);
+    Moved {
+        floor: after,
+        refusal: 0,
+    }
 }

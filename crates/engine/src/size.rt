@@ -4,7 +4,7 @@ ghost use Rattle.engine.specs.Refusals.{wrongWords, wrongListed, wrongFl
 use crate::Floor;
 
 // §6.1: W, N or the number of words is wrong.
-fn has_wrong_words(floor: Floor, words: usize) -> bool
+pub fn has_wrong_words(floor: Floor, words: usize) -> bool
     ensures { λ r. ⌜ r ≡ wrongWords floor words ⌝ }
 {
     if floor.workers < 1 {

@@ -11,9 +11,10 @@ use Rattle.turn.proofs.OneOutcome.{one-outcome}
 use Rattle.engine.specs.declared.Floor.{Floor}
 use Rattle.engine.specs.declared.Plan.{Plan}
 use Rattle.engine.specs.declared.Seat.{Seat}
+use Rattle.engine.specs.declared.Moved.{Moved}
 use Rattle.engine.specs.declared.Started.{Started}
 use Rattle.engine.specs.Calls.{Opened, recordIn}
-use Rattle.hall.specs.Calls.{openedIndex, retiredIndex, Indexed}
+use Rattle.hall.specs.Calls.{openedIndex, retiredIndex, Indexed, movedIndex}
 use Rattle.hall.proofs.Determined.{one-index}
 use Rattle.floor.specs.declared.Outcome.{Outcome}
 use Rattle.floor.specs.declared.TurnOutcome.{TurnOutcome}
@@ -23,7 +24,7 @@ use Rattle.floor.specs.declared.CountOutcome.{CountOutcome}
 use Rattle.floor.specs.declared.TotalOutcome.{TotalOutcome}
 use Rattle.floor.specs.declared.NextOutcome.{NextOutcome}
 use Rattle.floor.specs.Calls.{OnList, onList}
-use Rattle.floor.specs.Promises.{FloorOpened, StartLeft, TurnLeft, RetireLeft, RunLeft, PartShown, CountLeft, TotalLeft, NextLeft}
+use Rattle.floor.specs.Promises.{FloorOpened, StartLeft, TurnLeft, RetireLeft, RunLeft, MoveLeft, PartShown, CountLeft, TotalLeft, NextLeft}
 
 -- a list with an answer, taken apart
 apart : {A : Type 0} {one two : List Worker} {r t : A} → onList one r ≡ onList two t → (one ≡ two) × (r ≡ t)
@@ -96,6 +97,19 @@ desk-run-determined board records index f turns b c one two j k r t p q =
       h .0,
       ap (λ (y : Indexed (After (OnList RunOutcome))). y .index) e,
       h .1,
+    )
+
+-- a move: the board, the index, and the floor with the number
+pub desk-move-determined :
+    (old board : List ℕ) (records : List Worker) (index : List ℕ) (f : Floor) (n : ℕ) (b c j k : List ℕ) (r t : Outcome)
+    → MoveLeft old board records index f n b j r
+    → MoveLeft old board records index f n c k t
+    → (b ≡ c) × (j ≡ k) × (r ≡ t)
+desk-move-determined old board records index f n b c j k r t p q =
+    let e = one-answer (p .whole) (q .whole) in (
+      ap (λ (y : After Moved). y .words) e,
+      one-index (λ (y : After Moved). movedIndex index (y .words) n (y .handed .refusal)) (p .kept) (q .kept) e,
+      λ i. record { floor = e i .handed .floor; refusal = e i .handed .refusal },
     )
 
 -- a show to C: the words that are meant

@@ -5,7 +5,7 @@
 -- The list is lent again for each record. The invariant at k and zs: the first k records are what the leaf makes of them. Assumes `Given`, and
 -- that the leaf and `least` meet their contracts.
 use mathlib.Core.Path.{_≡_, refl, sym, ap, _∙_}
-use Prim.Native.Nat.{ℕ, _<_, _≤_, _+_, _-_, _^_}
+use Prim.Native.Nat.{ℕ, _≤_, _+_, _-_}
 use mathlib.Core.List.{[], _∷_, List}
 use lib.ListN.{length, getD, set}
 use mathlib.Core.Bool.{cond}
@@ -47,7 +47,7 @@ use Rattle.engine.specs.Firsts.{firsts}
 use Rattle.turn.proofs.Worker.Laws as T′
 use Rattle.engine.proofs.Firsts.{firsts-none, firsts-next, firsts-least}
 use Rattle.floor.proofs.Plain.{Plain, still-last, still-silent}
-use Rattle.floor.proofs.Walk.{walk-closes, pointer, loc, span, full, bare, stack, gone, var, sets, gets, part, arg, arg-num, cited-call, envOf, tests, relends, Nearer, nearer-wf}
+use Rattle.floor.proofs.Walk.{walk-closes, pointer, loc, span, full, bare, stack, gone, var, sets, gets, part, arg, arg-num, cited-call, envOf, tests, relends, Nearer, nearer-wf, nearer, below, next, zero-le}
 use Rattle.floor.proofs.Lend.{lends-again, back-again}
 use Rattle.floor.proofs.Records.{row}
 use Rattle.floor.proofs.Leaves.{given-call}
@@ -56,18 +56,6 @@ use Rattle.floor.proofs.list.least.Symbol as least-def
 use Rattle.floor.proofs.list.least.Met as least-thm
 
 -- ---- where the loop stands
-
-nearer : (n k : ℕ) → k < n → n - (k + 1) < n - k
-nearer n k h = omega arith
-
-below : (n k : ℕ) → n < 2 ^ 64 → k ≤ n → k < 2 ^ 64
-below n k fits h = omega arith
-
-next : (n k : ℕ) → k < n → k + 1 ≤ n
-next n k h = omega arith
-
-zero-le : (n : ℕ) → 0 ≤ n
-zero-le n = omega arith
 
 module _ (g : ℕ → Worker → Worker) where
   -- so many records are done, and the list is this

@@ -1,6 +1,7 @@
 -- The leaves as steps of a caller's walk. Each takes the lent list whole, with a share of its lifetime's token, from the head of the
 -- context; the operands are read with one entry for the two. Assumes `Given`, and that the leaf meets its contract.
 --     lent-call                a callee to which the list is lent as a `&`: it comes back as it was
+--     shared-call              such a callee, by a caller that itself has the list as a `&`: it has a copy of it
 --     given-call               a callee to which it goes for good as a `&mut`, at the machine value sx: its last state is said, and the
 --                              token is back
 --     take-call, put-call      the two leaves
@@ -111,6 +112,25 @@ module _ {M : Type 1} {𝓤 : URA M} {H : Heap 𝓤} {A : Atoms 𝓤} {K : Type 
       (‵ (flft (ν ∷ []) fullShare) ⊛ ‵ ftrue) refl spell tl (λ r _. φ r) (says ν δ .2) (os ν δ) (λ r _ is e.
       split t $ move t (0 ∷ 3 ∷ []) $ back-from-shared t tt row ℓ x room $ move t (2 ∷ 3 ∷ []) $ drop t $ drop t $ k r is e))
 
+  pub shared-call : {f : Name} → K → FmC 𝓤 H (W .laws) C → (ps : List (Slot 1)) (ks : Kepts ps) (R : RattleType) (c : Clauses 𝓤 (lent-ended ps ks R))
+      → Triple 𝓤 (C f) (tripleOf 𝓤 H A (lent-ended ps ks R .signature) (closing 𝓤 H A (lent-ended ps ks R) c))
+      → (ds : Denots (typesAt ps (κ, tt))) (vs : Valss (typesAt ps (κ, tt))) → ent 𝓤 (emp 𝓤) (sem 𝓤 H A (owns (typesAt ps (κ, tt)) ds vs))
+      → (spell : R .Denot → Val) → Tells R (Is R) (λ r. spell r ∷ []) → (φ : R .Denot → Type 0)
+      → (ℓ : Lifetime) (x : RefT (List Worker)) → Says 𝓤 (lent-ended ps ks R) c (κ, tt) (x, ds) (λ r _. φ r)
+      → Opds K W (((‵ (flft κ q) ⊛ ‵ ftrue) ⊛ ‵ (owns (ShrSlice (named 0) κ row ∷ typesAt ps (κ, tt)) (x, ds) (slice-vals x, vs)))
+      ∷ ‵ (ShrSlice ℓ κ row .own x (slice-vals x)) ∷ Γ) E xs (only (slice-vals x) ∷ flat (typesAt ps (κ, tt)) vs)
+      → ((r : R .Denot) → Is R r (spell r ∷ []) → φ r
+      → Seq K W (‵ (ShrSlice ℓ κ row .own x (slice-vals x)) ∷ ‵ (flft κ q) ∷ Γ) (lands C Λ E d (spell r) rest p))
+      → Seq K W (‵ (ShrSlice ℓ κ row .own x (slice-vals x)) ∷ ‵ (flft κ q) ∷ Γ) (runs C Λ E (seq (call f xs d) rest) p)
+  shared-call t fm ps ks R c met ds vs had spell tl φ ℓ x says os k =
+      let shared : Item 𝓤 = ‵ (ShrSlice ℓ κ row .own x (slice-vals x)) in
+      use1 W (shared ⊛ shared) (shr-slice-copy 𝓤 H A W ℓ κ row .twice x (slice-vals x)) $ split t $
+      use0 W (‵ (owns (typesAt ps (κ, tt)) ds vs)) had $ move t (1 ∷ 0 ∷ []) $ fjoin t $ nothing t $ move t (3 ∷ 0 ∷ []) $ join t $ join t $
+      cited-call t fm (lent-ended ps ks R) c met (((κ, tt), (q, tt), tt, (x, ds), (slice-vals x, vs)), says .0) (says .1)
+      (‵ (flft κ q) ⊛ ‵ ftrue) refl spell tl (λ r _. φ r) (says .2) os (λ r _ is e.
+      -- [the token and true; what is left of the plain ones; the list]
+      split t $ move t (1 ∷ []) $ drop t $ move t (1 ∷ []) $ drop t $ move t (1 ∷ 0 ∷ []) $ k r is e)
+
   pub given-call : {f : Name} → K → FmC 𝓤 H (W .laws) C → (ps : List (Slot 1)) (ks : Kepts ps) (c : Clauses 𝓤 (given-ended ps ks Nothing))
       → Triple 𝓤 (C f) (tripleOf 𝓤 H A (given-ended ps ks Nothing .signature) (closing 𝓤 H A (given-ended ps ks Nothing) c))
       → (ds : Denots (typesAt ps (κ, tt))) (vs : Valss (typesAt ps (κ, tt))) → ent 𝓤 (emp 𝓤) (sem 𝓤 H A (owns (typesAt ps (κ, tt)) ds vs))
@@ -151,14 +171,9 @@ module _ {M : Type 1} {𝓤 : URA M} {H : Heap 𝓤} {A : Atoms 𝓤} {K : Type 
       → Seq K W (‵ (ShrSlice ℓ κ row .own x (slice-vals x)) ∷ ‵ (flft κ q) ∷ Γ) (lands C Λ E d (val w) rest p))
       → Seq K W (‵ (ShrSlice ℓ κ row .own x (slice-vals x)) ∷ ‵ (flft κ q) ∷ Γ) (runs C Λ E (seq (call take-def.name xs d) rest) p)
   read-call t mem run fm met ℓ x i fits os k =
-      let shared : Item 𝓤 = ‵ (ShrSlice ℓ κ row .own x (slice-vals x)) in
-      use1 W (shared ⊛ shared) (shr-slice-copy 𝓤 H A W ℓ κ row .twice x (slice-vals x)) $ split t $
-      nothing t $ arg-num t i fits $ move t (1 ∷ 0 ∷ []) $ fjoin t $ nothing t $ move t (3 ∷ 0 ∷ []) $ join t $ join t $
-      cited-call t fm take.ended (take.clauses 𝓤 H A mem run) met
-      (((κ, tt), (q, tt), tt, (x, (i, tt)), (slice-vals x, (uint-vals w64 i, tt))), tt) (id⊢ 𝓤 _) (‵ (flft κ q) ⊛ ‵ ftrue) refl
-      val (LL.tells T.the-type T′.the-laws) (λ r _. r ≡ getD (x .now) i blank) (λ r _. refl) os (λ w _ is e.
-      -- [the token and true; nothing; the list]
-      split t $ move t (1 ∷ []) $ drop t $ move t (1 ∷ []) $ drop t $ move t (1 ∷ 0 ∷ []) $ k w is e)
+      shared-call t fm (plain (λ _. usize) ∷ []) (yes, tt) row (take.clauses 𝓤 H A mem run) met (i, tt) (uint-vals w64 i, tt)
+      (qed W [] ∵ nothing ! $ arg-num ! i fits $ done !) val (LL.tells T.the-type T′.the-laws) (λ r. r ≡ getD (x .now) i blank) ℓ x
+      (tt, id⊢ 𝓤 _, λ r ws. refl) os k
 
   pub put-call : K → (mem : Memory → SProp 𝓤) (run : Routine → Fun 𝓤) → FmC 𝓤 H (W .laws) C → Puts 𝓤 H A mem run C → (x : RefT (List Worker)) (sx : Val) (i : ℕ)
       → i < 2 ^ 64 → (w : Worker) → Is row w (vals w)

@@ -1,21 +1,28 @@
 -- A refused call on the list changes nothing, whatever the list's length: the board, the list and the index are as they came. Of an opening and of a
--- run the hall's hall-open-refused and hall-run-refused say it, as they speak of any list. Assumes nothing.
+-- run the hall's hall-open-refused and hall-run-refused say it, as they speak of any list. Of a move it is said of every outcome that meets its
+-- promise. Assumes nothing.
 use Prim.Native.Nat.{ℕ}
 use mathlib.Core.Bool.{Bool}
-use mathlib.Core.Path.{_≡_}
+use mathlib.Core.Path.{_≡_, ap, _∙_}
 use mathlib.Core.List.{List}
+use lib.Dec.{eqb}
 use lib.ListN.{length}
 use lib.Seq.{set-getD}
+use Rattle.mark.proofs.Choices.{by-cases}
 use Rattle.turn.specs.declared.Worker.{Worker}
-use Rattle.turn.specs.Turn.{Refused, after}
+use Rattle.turn.specs.Turn.{Refused, After, after}
 use Rattle.engine.specs.declared.Floor.{Floor}
+use Rattle.engine.specs.declared.Moved.{Moved}
 use Rattle.engine.specs.Refusals.{startNumber}
 use Rattle.engine.specs.Calls.{blank, recordIn, seatIn, startCall}
+use Rattle.engine.specs.Move.{restNumber, movedBy}
 use Rattle.engine.proofs.Refused as engine
-use Rattle.hall.specs.Refusals.{hallTurnNumber, hallRetireNumber}
-use Rattle.hall.specs.Calls.{hallTurn, indexLeft, retiredIndex}
+use Rattle.hall.specs.Refusals.{hallTurnNumber, hallRetireNumber, hallMoveNumber}
+use Rattle.hall.specs.Calls.{hallTurn, indexLeft, retiredIndex, hallMove}
+use Rattle.floor.specs.declared.Outcome.{Outcome}
 use Rattle.floor.specs.Told.{turnTold}
 use Rattle.floor.specs.Calls.{onList, startIn, turnIn, retireIn}
+use Rattle.floor.specs.Promises.{MoveLeft}
 use Rattle.hall.proofs.Refused.{hall-turn-refused, hall-retire-refused}
 
 module _ (board : List ℕ) (records : List Worker) (f : Floor) (i : ℕ) where
@@ -47,3 +54,25 @@ module _ (board : List ℕ) (records : List Worker) (index : List ℕ) (f : Floo
   desk-retire-refused some =
       let left = hall-retire-refused board index (seatIn f records i) (recordIn records i) some in
       (rw (left .0, set-getD records i blank), left .1)
+
+-- a move that hands back a number: board and index are as they came, and so is the floor
+module _ (old board : List ℕ) (f : Floor) (n : ℕ) where
+  moved-refused :
+      (number : ℕ) (board′ : List ℕ) (m : Moved)
+      → after board′ m ≡ movedBy number old f n board
+      → (m .refusal ≡ 0 → ⊥)
+      → (board′ ≡ board) × (m .floor ≡ f)
+  moved-refused number board′ m =
+      by-cases (λ (x : After Moved). after board′ m ≡ x → (m .refusal ≡ 0 → ⊥) → (board′ ≡ board) × (m .floor ≡ f)) (eqb number 0) _ _
+      (λ is e some. absurd (some (ap (λ (x : After Moved). x .handed .refusal) e)))
+      (λ isnot e some. (ap (λ (x : After Moved). x .words) e, ap (λ (x : After Moved). x .handed .floor) e))
+
+  pub desk-move-refused :
+      (records : List Worker) (index board′ index′ : List ℕ) (r : Outcome)
+      → MoveLeft old board records index f n board′ index′ r
+      → (r .refusal ≡ 0 → ⊥)
+      → (board′ ≡ board) × (index′ ≡ index) × (r .floor ≡ f)
+  unfolding hallMove
+  desk-move-refused records index board′ index′ r left some =
+      let kept = moved-refused (hallMoveNumber f old index (length records) (restNumber records) n board) board′ _ (left .whole) some in
+      (kept .0, left .kept ∙ engine.refuses _ _ _ some, kept .1)

@@ -12,8 +12,9 @@ use Rattle.engine.specs.declared.Seat.{Seat}
 use Rattle.engine.specs.declared.Started.{Started}
 use Rattle.engine.specs.Refusals.{countNumber}
 use Rattle.engine.specs.Calls.{recordIn, seatIn, showCall, showStart, countCall}
-use Rattle.hall.specs.Refusals.{hallTurnNumber, hallRetireNumber, questionNumber}
-use Rattle.hall.specs.Calls.{hallOpen, openedIndex, hallTurn, indexLeft, retiredIndex, indexed, totalCall, nextCall}
+use Rattle.engine.specs.Move.{restNumber}
+use Rattle.hall.specs.Refusals.{hallTurnNumber, hallRetireNumber, hallMoveNumber, questionNumber}
+use Rattle.hall.specs.Calls.{hallOpen, openedIndex, hallTurn, indexLeft, retiredIndex, indexed, hallMove, movedIndex, totalCall, nextCall}
 use Rattle.floor.specs.declared.Outcome.{Outcome}
 use Rattle.floor.specs.declared.TurnOutcome.{TurnOutcome}
 use Rattle.floor.specs.declared.RunOutcome.{RunOutcome}
@@ -54,6 +55,13 @@ pub record RetireLeft (board : List ℕ) (records : List Worker) (index : List �
 pub record RunLeft (board : List ℕ) (records : List Worker) (index : List ℕ) (f : Floor) (turns board′ : List ℕ) (records′ : List Worker)
     (index′ : List ℕ) (r : RunOutcome) : Type 0 where
   pub whole : indexed index′ (after board′ (onList records′ r)) ≡ runIn board records index f turns
+
+-- a move: the old board and the list, the new board and the index before and after, and what is handed back
+pub record MoveLeft (old board : List ℕ) (records : List Worker) (index : List ℕ) (f : Floor) (n : ℕ) (board′ index′ : List ℕ) (r : Outcome) :
+    Type 0 where
+  pub whole : after board′ (record { floor = r .floor; refusal = r .refusal }) ≡ hallMove old board index f (length records) (restNumber records) n
+  pub kept : index′ ≡ movedIndex index board′ n (r .refusal)
+  pub number : r .refusal ≡ hallMoveNumber f old index (length records) (restNumber records) n board
 
 -- a show, where no reference can be handed back: which words of the lent board are the part
 pub record PartShown (board : List ℕ) (f : Floor) (lot : ℕ) (p : Part) : Type 0 where

@@ -3,7 +3,7 @@
 // them under these names: include/desk.h.
 ghost use Rattle.engine.specs.Calls.{lookCall, insertCall, removeCall};
 ghost use Rattle.engine.specs.Promises.{Shown, ShowTested};
-ghost use Rattle.floor.specs.Promises.{FloorOpened, StartLeft, TurnLeft, RetireLeft, RunLeft, PartShown, CountLeft, TotalLeft, NextLeft};
+ghost use Rattle.floor.specs.Promises.{FloorOpened, StartLeft, TurnLeft, RetireLeft, RunLeft, MoveLeft, PartShown, CountLeft, TotalLeft, NextLeft};
 use engine::Bid;
 use engine::Floor;
 use engine::Plan;
@@ -243,6 +243,27 @@ pub extern "C" fn desk_run(
         run = next;
     }
     told::run(run)
+}
+
+// §1.1, §22.1: moves the lots to a second board, of so many buckets.
+#[no_mangle]
+pub extern "C" fn desk_move(
+    old: &[u64],
+    board: &mut [u64],
+    records: &[Worker],
+    index: &mut [u64],
+    floor: Floor,
+    buckets: usize,
+) -> Outcome
+    ensures { λ r. ⌜ MoveLeft (now (old .entry)) (now (board .entry)) (now (records .entry)) (now (index .entry)) floor buckets (now (board .exit)) (now (index .exit)) r ⌝ }
+{
+    let listed = records.len();
+    let rest = list::rest_refusal(records);
+    let moved = hall::move_lots(old, board, index, floor, listed, rest, buckets);
+    Outcome {
+        floor: moved.floor,
+        refusal: moved.refusal,
+    }
 }
 
 // §1.1, §14.4: where a lot's bucket stands on the board that was lent; an empty part where the show is refused.

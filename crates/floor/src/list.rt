@@ -5,6 +5,7 @@ ghost use lib.Dec.{ltb};
 ghost use lib.ListN.{getD, set};
 ghost use Rattle.turn.specs.Turn.{after, answerOf};
 ghost use Rattle.engine.specs.Calls.{blank};
+ghost use Rattle.engine.specs.Move.{restNumber};
 ghost use Rattle.engine.specs.Firsts.{firsts};
 ghost use Rattle.hall.specs.Calls.{indexLeft};
 ghost use Rattle.floor.specs.Lent.{beside};
@@ -36,6 +37,22 @@ pub fn put_at(records: &mut [Worker], worker: usize, w: Worker)
     } else {
         return;
     }
+}
+
+// §6.3, §6.12: the number that the records of the list give a move, or 0.
+pub fn rest_refusal(records: &[Worker]) -> u8
+    ensures { λ r. ⌜ r ≡ restNumber (now (records .entry)) ⌝ }
+{
+    let listed = records.len();
+    let mut number = 0u8;
+    let mut k = 0;
+    while k < listed {
+        let w = take_at(records, k);
+        let next = engine::rest_refusal(number, w);
+        number = next;
+        k += 1;
+    }
+    number
 }
 
 // Records that there are, of so many.

@@ -1,7 +1,7 @@
 -- §12.2: two outcomes that meet the promise of a call that takes the index are equal: board and index where the call can change them, and what is
 -- handed back. Each is over the record that the call's contract cites. Assumes nothing.
 use Prim.Native.Nat.{ℕ}
-use mathlib.Core.Path.{_≡_, sym, ap, _∙_}
+use mathlib.Core.Path.{_≡_, sym, ap, ap₂, _∙_}
 use mathlib.Core.List.{List}
 use Rattle.mark.proofs.OneAnswer.{one-answer}
 use Rattle.turn.specs.declared.Worker.{Worker}
@@ -13,10 +13,11 @@ use Rattle.engine.specs.declared.Floor.{Floor}
 use Rattle.engine.specs.declared.Plan.{Plan}
 use Rattle.engine.specs.declared.Seat.{Seat}
 use Rattle.engine.specs.declared.Laid.{Laid}
+use Rattle.engine.specs.declared.Moved.{Moved}
 use Rattle.hall.specs.declared.Totalled.{Totalled}
 use Rattle.hall.specs.declared.Next.{Next}
-use Rattle.hall.specs.Calls.{openedIndex, indexLeft, retiredIndex}
-use Rattle.hall.specs.Promises.{FloorKept, TurnKept, RetireKept, HallRunTested, TotalTold, NextTold}
+use Rattle.hall.specs.Calls.{openedIndex, indexLeft, retiredIndex, movedIndex}
+use Rattle.hall.specs.Promises.{FloorKept, TurnKept, RetireKept, HallRunTested, MoveKept, TotalTold, NextTold}
 
 -- an index that is told by what is handed back is one where that is
 pub one-index : {A : Type 0} {i j : List ℕ} {r t : A} (left : A → List ℕ) → i ≡ left r → j ≡ left t → r ≡ t → i ≡ j
@@ -66,6 +67,18 @@ pub run-refusal-determined :
     → HallRunTested f words listed entries count t
     → r ≡ t
 run-refusal-determined f words listed entries count r t p q = one-answer (p .whole) (q .whole)
+
+-- a move; what it leaves of the index is told by the board and the number
+pub move-determined :
+    (old board index : List ℕ) (f : Floor) (listed rest n : ℕ) (b i c j : List ℕ) (r t : Moved)
+    → MoveKept old board index f listed rest n b i r
+    → MoveKept old board index f listed rest n c j t
+    → (b ≡ c) × ((i ≡ j) × (r ≡ t))
+move-determined old board index f listed rest n b i c j r t p q =
+    let same = one-outcome (p .whole) (q .whole) in (
+      same .0,
+      (p .kept ∙ ap₂ (λ (words : List ℕ) (x : Moved). movedIndex index words n (x .refusal)) (same .0) (same .1) ∙ sym (q .kept), same .1),
+    )
 
 -- the total
 pub total-determined : (board index : List ℕ) (f : Floor) (r t : Totalled) → TotalTold board index f r → TotalTold board index f t → r ≡ t

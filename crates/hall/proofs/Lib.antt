@@ -1,5 +1,6 @@
 -- the statements
 pub mod Reading
+pub mod Fresh
 pub mod Agrees
 pub mod Kept
 pub mod Same

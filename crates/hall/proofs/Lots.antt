@@ -14,7 +14,7 @@ abbrev pub markAt : List ℕ → ℕ → ℕ
 markAt board b = cell (bucketAt board b) markCell
 
 -- a bucket has three slots, so n have 3n
-lots-le : (board : List ℕ) (n : ℕ) → lotsOn board n ≤ 3 * n
+pub lots-le : (board : List ℕ) (n : ℕ) → lotsOn board n ≤ 3 * n
 unfolding lotsOn
 lots-le board zero = omega arith
 lots-le board (suc n) = omega (arith, lots-le board n, count-le 1 (markAt board n))

@@ -14,8 +14,8 @@ use Rattle.engine.specs.Calls.{planned, turned, retired, unbegun}
 use Rattle.engine.proofs.Refused.{refuses}
 use Rattle.hall.specs.declared.Totalled.the-variants as Totalled
 use Rattle.hall.specs.declared.Next.the-variants as Next
-use Rattle.hall.specs.Refusals.{hallOpenNumber, hallTurnNumber, hallRetireNumber, hallRunNumber, questionNumber}
-use Rattle.hall.specs.Calls.{hallOpen, openedIndex, hallTurn, indexLeft, hallRetire, retiredIndex, indexed, hallRun, totalCall, nextCall}
+use Rattle.hall.specs.Refusals.{hallOpenNumber, hallTurnNumber, hallRetireNumber, hallRunNumber, hallMoveNumber, questionNumber}
+use Rattle.hall.specs.Calls.{hallOpen, openedIndex, hallTurn, indexLeft, hallRetire, retiredIndex, indexed, hallRun, hallMove, movedIndex, totalCall, nextCall}
 
 module _ (board index : List ℕ) (f : Floor) (records : List Worker) (listed : ℕ) where
   -- an opening
@@ -52,6 +52,15 @@ module _ (board index : List ℕ) (s : Seat) (w : Worker) where
       → (hallRetire board index s w ≡ after board (notRetired number w)) × (retiredIndex (s .floor) board index w number ≡ index)
   unfolding hallRetire retired
   hall-retire-refused some = (refuses _ _ _ some, rw (ne-eqb _ 0 some))
+
+module _ (old board index : List ℕ) (f : Floor) (listed rest n : ℕ) where
+  -- a move
+  pub hall-move-refused :
+      let number = hallMoveNumber f old index listed rest n board in
+      (number ≡ 0 → ⊥)
+      → (hallMove old board index f listed rest n ≡ after board (record { floor = f; refusal = number })) × (movedIndex index board n number ≡ index)
+  unfolding hallMove
+  hall-move-refused some = (refuses _ _ _ some, refuses _ _ _ some)
 
 module _ (board index : List ℕ) (f : Floor) where
   -- a total

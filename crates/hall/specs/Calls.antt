@@ -1,5 +1,5 @@
 -- The whole outcome of each call that takes the index: the engine's, by the number that it has here, and the five words that are left.
-use Prim.Native.Nat.{ℕ, _-_}
+use Prim.Native.Nat.{ℕ, zero, suc, _-_}
 use mathlib.Core.Bool.{Bool, cond}
 use mathlib.Core.List.{List, [], _∷_}
 use lib.Dec.{eqb, ltb}
@@ -14,7 +14,9 @@ use Rattle.engine.specs.declared.Floor.{Floor}
 use Rattle.engine.specs.declared.Plan.{Plan}
 use Rattle.engine.specs.declared.Seat.{Seat}
 use Rattle.engine.specs.declared.Laid.{Laid}
-use Rattle.engine.specs.Board.{bucketOf}
+use Rattle.engine.specs.declared.Moved.{Moved}
+use Rattle.engine.specs.Board.{bucketOf, bucketAt}
+use Rattle.engine.specs.Move.{movedBy}
 use Rattle.engine.specs.Refusals.{bucketFor}
 use Rattle.engine.specs.Calls.{Opened, Ran, planned, openedBy, laidBy, turned, tried, retired, vacatedOn, unbegun, recordIn, goOn}
 use Rattle.hall.specs.declared.Totalled.{Totalled}
@@ -22,7 +24,7 @@ use Rattle.hall.specs.declared.Totalled.the-variants as Totalled
 use Rattle.hall.specs.declared.Next.{Next}
 use Rattle.hall.specs.declared.Next.the-variants as Next
 use Rattle.hall.specs.Index.{indexWords, totalIn, bitIn, followed}
-use Rattle.hall.specs.Refusals.{hallOpenNumber, hallEachNumber, hallTurnNumber, hallRetireNumber, hallRunNumber, questionNumber}
+use Rattle.hall.specs.Refusals.{hallOpenNumber, hallEachNumber, hallTurnNumber, hallRetireNumber, hallRunNumber, hallMoveNumber, questionNumber}
 
 -- ---- open
 
@@ -100,6 +102,21 @@ hallRun board index f records listed turns =
     cond (eqb (hallRunNumber f board index listed turns) 0)
     (hallRunFrom f turns (indexed index (unbegun board records 0)))
     (indexed index (unbegun board records (hallRunNumber f board index listed turns)))
+
+-- ---- move
+
+-- §22.1: a move to a board of n buckets
+unfoldable pub hallMove : List ℕ → List ℕ → List ℕ → Floor → ℕ → ℕ → ℕ → After Moved
+hallMove old board index f listed rest n = movedBy (hallMoveNumber f old index listed rest n board) old f n board
+
+-- §22.4: an index made afresh: it follows each bucket from a mark word without marks to the one that stands there
+unfoldable pub freshIndex : List ℕ → ℕ → List ℕ
+freshIndex board zero = replicate indexWords 0
+freshIndex board (suc b) = followed (freshIndex board b) b 0 (cell (bucketAt board b) markCell)
+
+-- §22.4: what a move with this number of refusal, or 0, leaves of the index, where it leaves this board
+abbrev pub movedIndex : List ℕ → List ℕ → ℕ → ℕ → List ℕ
+movedIndex index board n number = cond (eqb number 0) (freshIndex board n) index
 
 -- ---- the questions
 

@@ -11,10 +11,11 @@ use Rattle.engine.specs.declared.Floor.{Floor}
 use Rattle.engine.specs.declared.Plan.{Plan}
 use Rattle.engine.specs.declared.Seat.{Seat}
 use Rattle.engine.specs.declared.Laid.{Laid}
+use Rattle.engine.specs.declared.Moved.{Moved}
 use Rattle.hall.specs.declared.Totalled.{Totalled}
 use Rattle.hall.specs.declared.Next.{Next}
-use Rattle.hall.specs.Refusals.{hallRetireNumber, hallRunRefusal, questionNumber}
-use Rattle.hall.specs.Calls.{hallLay, openedIndex, hallTry, indexLeft, hallRetire, retiredIndex, totalCall, totalledNumber, nextCall, nextNumber}
+use Rattle.hall.specs.Refusals.{hallRetireNumber, hallRunRefusal, hallMoveNumber, questionNumber}
+use Rattle.hall.specs.Calls.{hallLay, openedIndex, hallTry, indexLeft, hallRetire, retiredIndex, hallMove, movedIndex, totalCall, totalledNumber, nextCall, nextNumber}
 
 -- an opening: the board and the index before and after, and what is laid out beside them
 pub record FloorKept (board index : List ℕ) (f : Floor) (listed : ℕ) (p : Plan) (board′ index′ : List ℕ) (r : Laid) : Type 0 where
@@ -35,6 +36,12 @@ pub record RetireKept (board index : List ℕ) (s : Seat) (w : Worker) (board′
 -- whether a run is refused as a whole: the number, or 0
 pub record HallRunTested (f : Floor) (words listed entries count : ℕ) (r : ℕ) : Type 0 where
   pub whole : r ≡ hallRunRefusal f words listed entries count
+
+-- a move: the old board, the new board and the index before and after, and what is handed back, where the records give this number, or 0
+pub record MoveKept (old board index : List ℕ) (f : Floor) (listed rest n : ℕ) (board′ index′ : List ℕ) (r : Moved) : Type 0 where
+  pub whole : after board′ r ≡ hallMove old board index f listed rest n
+  pub kept : index′ ≡ movedIndex index board′ n (r .refusal)
+  pub number : r .refusal ≡ hallMoveNumber f old index listed rest n board
 
 -- the total
 pub record TotalTold (board index : List ℕ) (f : Floor) (r : Totalled) : Type 0 where

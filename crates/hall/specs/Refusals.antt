@@ -10,6 +10,7 @@ use Rattle.turn.specs.Bucket.{cell, markCell}
 use Rattle.engine.specs.declared.Floor.{Floor}
 use Rattle.engine.specs.Board.{bucketOf}
 use Rattle.engine.specs.Refusals.{wrongFloor, bucketFor, openNumber, eachNumber, turnNumber, retireNumber, runRefusal}
+use Rattle.engine.specs.Move.{moveNumber}
 use Rattle.hall.specs.Index.{indexWords, untrue}
 
 -- §6.1: an index that has not five words
@@ -57,6 +58,10 @@ hallRunRefusal f words listed entries count = cond (wrongIndex entries) 1 (runRe
 -- §7.2: a run's number as a whole
 unfoldable pub hallRunNumber : Floor → List ℕ → List ℕ → ℕ → List ℕ → ℕ
 hallRunNumber f board index listed turns = hallRunRefusal f (length board) listed (length index) (length turns)
+
+-- §7.2: a move's number, where the records give it this one, or 0
+unfoldable pub hallMoveNumber : Floor → List ℕ → List ℕ → ℕ → ℕ → ℕ → List ℕ → ℕ
+hallMoveNumber f old index listed rest n board = cond (wrongIndex (length index)) 1 (moveNumber f old listed rest n board)
 
 -- §7.2: the number of a question
 unfoldable pub questionNumber : Floor → List ℕ → List ℕ → ℕ

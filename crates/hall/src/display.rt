@@ -8,7 +8,7 @@ ghost use Rattle.turn.specs.Bucket.{cell, markCell};
 ghost use Rattle.engine.specs.Refusals.{bucketFor};
 ghost use Rattle.engine.specs.Room.{Right};
 ghost use Rattle.engine.specs.Board.{bucketOf};
-ghost use Rattle.hall.specs.Calls.{nextIn};
+ghost use Rattle.hall.specs.Calls.{nextIn, freshIndex};
 ghost use Rattle.hall.specs.Index.{indexWords, totalIn, bitIn, validIn, untrue, followed};
 use crate::Next;
 use engine::Floor;
@@ -78,6 +78,19 @@ pub fn follow(index: &mut [u64], bucket: usize, before: u64, after: u64)
     let at = 1 + bucket / IN_WORD;
     index[at] = bits::with_bit(index[at], (bucket % IN_WORD) as u32, is > 0);
     index[0] = total;
+}
+
+// §22.4: made afresh: each bucket is followed from no mark to the mark word that it has.
+pub fn make(index: &mut [u64], board: &[u64], buckets: usize)
+    requires { ⌜ (length (now index) ≡ 5) × ((buckets ≤ 256) × (length (now board) ≡ 8 * buckets)) ⌝ }
+    ensures { λ _. ⌜ now (index .exit) ≡ freshIndex (now (board .entry)) buckets ⌝ }
+{
+    clear(index);
+    let mut b = 0;
+    while b < buckets {
+        follow(index, b, 0, board[8 * b]);
+        b += 1;
+    }
 }
 
 // §21.4: a bucket, if there is one of this number.

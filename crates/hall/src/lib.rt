@@ -4,9 +4,10 @@ ghost use mathlib.Core.Bool.{true};
 ghost use lib.ListN.{length};
 ghost use Rattle.engine.specs.Room.{Right};
 ghost use Rattle.hall.specs.Refusals.{untrueAfter, untrueIfHeld};
-ghost use Rattle.hall.specs.Promises.{FloorKept, TurnKept, RetireKept, HallRunTested, TotalTold, NextTold};
+ghost use Rattle.hall.specs.Promises.{FloorKept, TurnKept, RetireKept, HallRunTested, MoveKept, TotalTold, NextTold};
 use engine::Floor;
 use engine::Laid;
+use engine::Moved;
 use engine::Plan;
 use engine::Seat;
 use turn::Retired;
@@ -128,6 +129,32 @@ pub fn run_refusal(floor: Floor, words: usize, listed: usize, entries: usize, co
         return refusal::WRONG_SIZES;
     }
     engine::run_refusal(floor, words, listed, count)
+}
+
+// §22.1, §22.4: moves the lots to another board, and makes the index afresh.
+pub fn move_lots(
+    old: &[u64],
+    board: &mut [u64],
+    index: &mut [u64],
+    floor: Floor,
+    listed: usize,
+    rest: u8,
+    buckets: usize,
+) -> Moved
+    ensures { λ r. ⌜ MoveKept (now (old .entry)) (now (board .entry)) (now (index .entry)) floor listed rest buckets (now (board .exit)) (now (index .exit)) r ⌝ }
+{
+    if index.len() != display::WORDS {
+        return Moved {
+            floor,
+            refusal: refusal::WRONG_SIZES,
+        };
+    }
+    let moved = engine::move_lots(old, board, floor, listed, rest, buckets);
+    if moved.refusal != 0 {
+        return moved;
+    }
+    display::make(index, board, buckets);
+    moved
 }
 
 // §21.3: the number of valid slots.

@@ -12,8 +12,9 @@ use Rattle.walks.specs.Calls.{notSmall}
 use Rattle.walks.proofs.Lists.{each-all, each-has}
 use Rattle.walks.proofs.TheOrders.{all-orders}
 use Rattle.history.specs.Counts.{oneIf, isLost, lostSwaps}
-use Rattle.history.specs.History.{State, Opening, Call, run, opened, isStart, runOf, entries, after, stateFrom, sumFrom, state, trace, mostLost}
+use Rattle.history.specs.History.{State, Call, run, isStart, runOf, entries, after, stateFrom, sumFrom, state, trace, mostLost}
 use Rattle.history.specs.AllOrders.{mostInOne, OrdersFrom}
+use Rattle.history.proofs.Ready.{Ready}
 use Rattle.history.proofs.Histories.{traceFrom-then}
 use Rattle.history.proofs.Counts.{total-append}
 use Rattle.history.proofs.Runs.{run-lost}
@@ -28,41 +29,41 @@ unfolding sumFrom stateFrom
 sum-run kind s [] turns none = omega arith
 sum-run kind s (c ∷ calls) turns none = ap (λ (n : ℕ). isStart kind s c + n) (sum-run kind (after s c) calls turns none)
 
-module _ (o : Opening) (calls : List Call) (turns : List ℕ) where
-  same-bound : mostLost o (calls ++ (run turns ∷ [])) ≡ mostLost o calls
-  same-bound = rw (sum-run 2 (opened o) calls turns refl, sum-run 3 (opened o) calls turns refl)
+module _ {first : State} (ready : Ready first) (calls : List Call) (turns : List ℕ) where
+  same-bound : mostLost first (calls ++ (run turns ∷ [])) ≡ mostLost first calls
+  same-bound = rw (sum-run 2 first calls turns refl, sum-run 3 first calls turns refl)
 
   -- with a run of any turns more, no more swaps are lost than without it may be
-  run-bound : lostSwaps (trace o calls) + runOf (state o calls) turns .handed .totals .lost ≤ mostLost o calls
+  run-bound : lostSwaps (trace first calls) + runOf (state first calls) turns .handed .totals .lost ≤ mostLost first calls
   run-bound =
       let then = run turns in
-      let bound = demand-three o (calls ++ (then ∷ [])) .bound in
-      let trace-is : trace o (calls ++ (then ∷ [])) ≡ trace o calls ++ entries (state o calls) then = traceFrom-then (opened o) calls then in
-      let lost = total-append (λ e. oneIf (isLost e)) (trace o calls) (entries (state o calls) then) in
-      let of-run = run-lost (state o calls) turns in
-      let limit : lostSwaps (trace o calls ++ entries (state o calls) then) ≤ mostLost o calls = rw (same-bound, trace-is) at bound in
+      let bound = demand-three ready (calls ++ (then ∷ [])) .bound in
+      let trace-is : trace first (calls ++ (then ∷ [])) ≡ trace first calls ++ entries (state first calls) then = traceFrom-then first calls then in
+      let lost = total-append (λ e. oneIf (isLost e)) (trace first calls) (entries (state first calls) then) in
+      let of-run = run-lost (state first calls) turns in
+      let limit : lostSwaps (trace first calls ++ entries (state first calls) then) ≤ mostLost first calls = rw (same-bound, trace-is) at bound in
       omega (arith, limit, lost, of-run)
 
 -- and so it is of the engine's run, which all orders go by
 order-bound :
-    (o : Opening) (calls : List Call) (turns : List ℕ)
-    → lostSwaps (trace o calls) + lostIn (state o calls .floor) (state o calls .board) (state o calls .records) turns ≤ mostLost o calls
-order-bound o calls turns =
-    let s = state o calls in
-    subst (λ (x : After Ran). lostSwaps (trace o calls) + x .handed .totals .lost ≤ mostLost o calls)
-    (run-same (s .floor) (s .records) turns (state-unbroken o calls .reads)) (run-bound o calls turns)
+    {first : State} (ready : Ready first) (calls : List Call) (turns : List ℕ)
+    → lostSwaps (trace first calls) + lostIn (state first calls .floor) (state first calls .board) (state first calls .records) turns ≤ mostLost first calls
+order-bound {first} ready calls turns =
+    let s = state first calls in
+    subst (λ (x : After Ran). lostSwaps (trace first calls) + x .handed .totals .lost ≤ mostLost first calls)
+    (run-same (s .floor) (s .records) turns (state-unbroken ready calls .reads)) (run-bound ready calls turns)
 
-pub orders-from : (o : Opening) (calls : List Call) (depth : ℕ) → notSmall (state o calls .floor) depth ≡ false → OrdersFrom o calls depth
-orders-from o calls depth small =
-    let s = state o calls in
-    let none = orders-accepted s (state-unbroken o calls) depth small in
+pub orders-from : {first : State} (ready : Ready first) (calls : List Call) (depth : ℕ) → notSmall (state first calls .floor) depth ≡ false → OrdersFrom first calls depth
+orders-from {first} ready calls depth small =
+    let s = state first calls in
+    let none = orders-accepted s (state-unbroken ready calls) depth small in
     let all = all-orders (s .floor) (s .board) (s .records) depth none in
     let those = orders (s .floor) depth (s .board) (s .records) in
     let lost : List ℕ → ℕ = lostIn (s .floor) (s .board) (s .records) in
-    let Bounded : List ℕ → Type 0 = λ turns. lostSwaps (trace o calls) + lost turns ≤ mostLost o calls in
+    let Bounded : List ℕ → Type 0 = λ turns. lostSwaps (trace first calls) + lost turns ≤ mostLost first calls in
     let Most : List ℕ → Type 0 = λ turns. lost turns ≡ mostInOne s depth in
     record {
       accepted = none;
       listed = all;
-      bound = (let one = each-has Bounded Most those (each-all Bounded (order-bound o calls) those) (all .reached) in rw (← one .2) (one .1));
+      bound = (let one = each-has Bounded Most those (each-all Bounded (order-bound ready calls) those) (all .reached) in rw (← one .2) (one .1));
     }

@@ -14,16 +14,15 @@ use Rattle.mark.proofs.Slots.{mark-past}
 use Rattle.turn.specs.declared.Worker.{Worker}
 use Rattle.turn.specs.declared.Stepped.{Stepped}
 use Rattle.turn.specs.Worker.{insertKind, noSlot, idle, ticketFits}
-use Rattle.turn.specs.Bucket.{cell, markCell, keyCell, valueCell}
+use Rattle.turn.specs.Bucket.{markCell, keyCell, valueCell}
 use Rattle.turn.specs.Effects.{Effect, effectOn}
 use Rattle.turn.specs.Effects as Effects
 use Rattle.turn.proofs.Retiring.{by-held, retires-holder}
 use Rattle.turn.proofs.Outcomes.{Same, Did, reads, loses, stores-value, stores-key, claims, commits, frees, closes, AtSwap, at6, at9, at13}
 use Rattle.turn.proofs.Values.{filled}
 use Rattle.turn.proofs.Stays.{StaysOn, reads-place, HeldAt, key-did, valid-did}
-use Rattle.engine.specs.Board.{bucketAt, emptyBucket, openedBoard}
 use Rattle.history.specs.Trace.{Turn, Retiring, acted, retired}
-use Rattle.history.specs.History.{State, Opening, Call, opened, recordOf, state}
+use Rattle.history.specs.History.{State, Call, recordOf, state}
 use Rattle.history.specs.Values.{valueAt}
 use Rattle.history.specs.Cells.{cellsAt, markAt, keyAt, home, Holds, Fills, Stands, Cells}
 use Rattle.history.proofs.View.{retired-word, each-worker}
@@ -33,8 +32,8 @@ use Rattle.history.proofs.Held.{Apart, Kept, own-sure, act-kept, start-
 use Rattle.history.proofs.Steps.{Begins, Turns, Retires, stepOf, Lasts, calls-last}
 use Rattle.history.proofs.Account.{other-cells, turn-account, was-home, still-on, still-home}
 use Rattle.history.proofs.Written.{turn-spares}
-use Rattle.history.proofs.Opened.{opened-is, opened-or-none}
-use Rattle.history.proofs.Beginning.{no-mark, holds-none, opened-good}
+use Rattle.history.proofs.Ready.{Ready, holds-none}
+use Rattle.history.proofs.Beginning.{ready-good}
 
 -- ---- in the cells c of a bucket
 
@@ -325,35 +324,19 @@ known-lasts =
 
 -- ---- histories
 
-module _ (o : Opening) where
-  -- no slot of an opened board has a mark
-  pub opened-mark : (b p : ℕ) → markAt (opened o) b p ≡ 0
-  opened-mark b p =
-      ap (λ (x : State). markAt x b p) (opened-is o) ∙ by (opened-or-none (o .plan .buckets) (o .plan .version) b)
-    where
-      bucket : List ℕ
-      bucket = bucketAt (openedBoard (o .plan .buckets) (o .plan .version)) b
-
-      by : (bucket ≡ emptyBucket (o .plan .version)) ⊎ (bucket ≡ []) → markOf (cell bucket markCell) p ≡ 0
-      by (inl is) = rw is (no-mark (o .plan .version) (o .version-fits) p)
-      by (inr is) = rw is (no-mark 0 (omega arith) p)
-
-  -- an opening leaves every slot as is known
-  pub opened-known : Known (opened o)
-  opened-known =
+module _ {first : State} (ready : Ready first) where
+  -- where a stretch can begin every slot is as is known
+  pub ready-known : Known first
+  ready-known =
       record {
-        kept = rw (ap (λ (x : State). x .floor .buckets) (opened-is o)) (opened-good o .kept);
-        cells =
-            record {
-              filled = λ i holds. absurd (holds-none o i holds);
-              valid = λ b p one. absurd (omega (arith, one, opened-mark b p));
-            };
+        kept = ready-good ready .kept;
+        cells = record { filled = λ i holds. absurd (holds-none ready i holds); valid = ready .stands };
       }
 
-  -- after every opening and every list of calls that is known
-  pub state-known : (calls : List Call) → Known (state o calls)
-  state-known calls = calls-last (λ s past ts. Known s) known-lasts calls (opened o) [] [] opened-known
+  -- after every list of calls that is known
+  pub state-known : (calls : List Call) → Known (state first calls)
+  state-known calls = calls-last (λ s past ts. Known s) known-lasts calls first [] [] ready-known
 
-  -- after every opening and every list of calls held slots are filled, and valid ones have a lot of their bucket and a ticket
-  pub state-cells : (calls : List Call) → Cells (state o calls)
+  -- after every list of calls held slots are filled, and valid ones have a lot of their bucket and a ticket
+  pub state-cells : (calls : List Call) → Cells (state first calls)
   state-cells calls = state-known calls .cells

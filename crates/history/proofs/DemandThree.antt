@@ -1,4 +1,4 @@
--- Demand 3 holds for every opening and every list of calls, with no other premise. Assumes nothing.
+-- Demand 3 holds wherever a stretch can begin and for every list of calls, with no other premise. Assumes nothing.
 use Prim.Native.Nat.{ℕ, _+_, _*_, _-_, _≤_}
 use mathlib.Core.List.{List, [], _∷_, _++_, append-assoc}
 use mathlib.Core.Path.{ap, _∙_}
@@ -8,7 +8,7 @@ use native.Mathlib.Omega.{arith}
 use Rattle.history.specs.Trace.{Turn, Entry, acted, Wins, Loses, Swaps, Some, None, total}
 use Rattle.history.specs.Counts.{lostSwaps, changesIn}
 use Rattle.history.specs.Moment.{AtTurn, AtMoment, HasMoment, ChangedByAnother, CommittedOrClosedByAnother}
-use Rattle.history.specs.History.{Opening, Call, opened, workersOf, state, trace, inserts, removes, mostLost}
+use Rattle.history.specs.History.{State, Call, workersOf, bucketsOf, state, trace, inserts, removes, mostLost}
 use Rattle.history.specs.Demand.{DemandThree}
 use Rattle.history.proofs.View.{View, Walk}
 use Rattle.history.proofs.Counts.{lossOf, onto, total-onto}
@@ -16,52 +16,52 @@ use Rattle.history.proofs.Cuts.{cut-at}
 use Rattle.history.proofs.Remembers.{Still, back}
 use Rattle.history.proofs.Swaps.{swap-aware, lost-since, won-since}
 use Rattle.history.proofs.States.{view}
-use Rattle.history.proofs.Opened.{opened-right}
+use Rattle.history.proofs.Ready.{Ready, ready-right, ready-unaware}
 use Rattle.history.proofs.Walking.{history-walk}
-use Rattle.history.proofs.Beginning.{opened-unaware, opened-good, history-good}
+use Rattle.history.proofs.Beginning.{ready-good, history-good}
 
-module _ (o : Opening) (calls : List Call) where
+module _ {first : State} (ready : Ready first) (calls : List Call) where
   abbrev n : ℕ
-  n = o .plan .buckets
+  n = bucketsOf first
 
   -- the history as a walk
-  abbrev walk : Walk n (view (opened o)) (trace o calls) (2 * inserts o calls + removes o calls) (view (state o calls))
-  walk = history-walk o calls
+  abbrev walk : Walk n (view first) (trace first calls) (2 * inserts first calls + removes first calls) (view (state first calls))
+  walk = history-walk first calls
 
-  seen : (before : List Entry) (y : Turn) (u : View) → HasMoment before y ⊎ Still n (view (opened o)) before u y → HasMoment before y
+  seen : (before : List Entry) (y : Turn) (u : View) → HasMoment before y ⊎ Still n (view first) before u y → HasMoment before y
   seen before y u (inl has) = has
-  seen before y u (inr still) = absurd (opened-unaware o (y .worker) (still .aware))
+  seen before y u (inr still) = absurd (ready-unaware ready (y .worker) (still .aware))
 
-  the-moment-exists : (at : AtTurn (trace o calls)) → Swaps (at .turn) → HasMoment (at .before) (at .turn)
+  the-moment-exists : (at : AtTurn (trace first calls)) → Swaps (at .turn) → HasMoment (at .before) (at .turn)
   the-moment-exists at swap =
       let c = cut-at n (acted (at .turn)) (at .after) (at .before) walk (at .cut) in
       seen (at .before) (at .turn) (c .here) (back n (at .turn) (c .first) (swap-aware (c .act) swap) (c .act .bucket))
 
-  a-swap-loses-only-if : (at : AtMoment (trace o calls)) → Loses (at .turn) → Some (ChangedByAnother (at .turn)) (at .between)
-  a-swap-loses-only-if at lost = lost-since (workersOf o) n (o .plan .version) walk (opened-good o) at (inr lost) lost
+  a-swap-loses-only-if : (at : AtMoment (trace first calls)) → Loses (at .turn) → Some (ChangedByAnother (at .turn)) (at .between)
+  a-swap-loses-only-if at lost = lost-since (workersOf first) n (view first .marks) walk (ready-good ready) at (inr lost) lost
 
-  a-swap-wins-only-if : (at : AtMoment (trace o calls)) → Wins (at .turn) → None (CommittedOrClosedByAnother (at .turn)) (at .between)
+  a-swap-wins-only-if : (at : AtMoment (trace first calls)) → Wins (at .turn) → None (CommittedOrClosedByAnother (at .turn)) (at .between)
   a-swap-wins-only-if at won =
-      won-since (workersOf o) n (o .plan .version) walk (opened-good o) at (inl won) (omega (arith, opened-right o .some-bucket)) won
+      won-since (workersOf first) n (view first .marks) walk (ready-good ready) at (inl won) (omega (arith, ready-right ready .some-bucket)) won
 
-  lost-swaps-bound : lostSwaps (trace o calls) ≤ mostLost o calls
+  lost-swaps-bound : lostSwaps (trace first calls) ≤ mostLost first calls
   unfolding total
   lost-swaps-bound =
-      let good = history-good o calls in
-      let lost = total-onto lossOf (trace o calls) [] in
-      let changes = changesIn (onto (trace o calls) []) in
-      let allowed = 2 * inserts o calls + removes o calls in
-      let paid = mul-le-mul-left {m = changes} {n = allowed} (workersOf o - 1) (omega (arith, good .budget)) in
+      let good = history-good ready calls in
+      let lost = total-onto lossOf (trace first calls) [] in
+      let changes = changesIn (onto (trace first calls) []) in
+      let allowed = 2 * inserts first calls + removes first calls in
+      let paid = mul-le-mul-left {m = changes} {n = allowed} (workersOf first - 1) (omega (arith, good .budget)) in
       omega (arith, good .charge, lost, paid)
 
   -- §11.3: demand 3
-  pub demand-three : DemandThree o calls
+  pub demand-three : DemandThree first calls
   demand-three = record { moment = the-moment-exists; loses = a-swap-loses-only-if; wins = a-swap-wins-only-if; bound = lost-swaps-bound }
 
   -- ---- every swap of the trace, with the moment that it has
 
-  module _ (at : AtTurn (trace o calls)) where
-    abbrev pub at-moment : HasMoment (at .before) (at .turn) → AtMoment (trace o calls)
+  module _ (at : AtTurn (trace first calls)) where
+    abbrev pub at-moment : HasMoment (at .before) (at .turn) → AtMoment (trace first calls)
     at-moment has =
         record {
           before = has .older;

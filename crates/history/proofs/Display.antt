@@ -14,9 +14,10 @@ use Rattle.hall.specs.Calls.{totalCall, nextCall}
 use Rattle.hall.specs.Reading.{Reads, occupiedAt, nextOn, IsNext}
 use Rattle.hall.proofs.Reading.{reads-next, first-is}
 use Rattle.floor.specs.Told.{totalTold, nextTold}
-use Rattle.history.specs.History.{State, Opening, Call, state}
+use Rattle.history.specs.History.{State, Call, bucketsOf, state}
 use Rattle.history.specs.Numbers.{OneOf}
 use Rattle.history.specs.Display.{NextTells, Displays}
+use Rattle.history.proofs.Ready.{Ready}
 use Rattle.history.proofs.Lots.{counted}
 use Rattle.history.proofs.SameSizes.{state-buckets}
 use Rattle.history.proofs.Unbroken.{state-unbroken, run-stops-by}
@@ -35,36 +36,36 @@ tells-next board n from (Next.Refusal number) is = absurd is
 tells-next board n from Next.Nowhere is = record { accepted = refl; some = λ yes. not-both false refl yes; none = λ no. is }
 tells-next board n from (Next.Bucket b) is = record { accepted = refl; some = λ yes. is; none = λ no. not-both true no refl }
 
-module _ (o : Opening) (calls : List Call) where
+module _ {first : State} (ready : Ready first) (calls : List Call) where
   abbrev s : State
-  s = state o calls
+  s = state first calls
 
   abbrev n : ℕ
-  n = o .plan .buckets
+  n = bucketsOf first
 
   reads : Reads (s .board) n (s .index)
-  reads = subst (λ (m : ℕ). Reads (s .board) m (s .index)) (state-buckets o calls) (state-unbroken o calls .reads)
+  reads = subst (λ (m : ℕ). Reads (s .board) m (s .index)) (state-buckets first calls) (state-unbroken ready calls .reads)
 
   total : totalCall (s .board) (s .index) (s .floor) ≡ Slots (lotsOn (s .board) n)
   unfolding totalCall
-  total = rw (question-accepted s (state-unbroken o calls), reads .total)
+  total = rw (question-accepted s (state-unbroken ready calls), reads .total)
 
   next : (from : ℕ) → nextCall (s .board) (s .index) (s .floor) from ≡ nextOn (s .board) n from
   unfolding nextCall
-  next from = rw (question-accepted s (state-unbroken o calls), state-buckets o calls) (reads-next reads from)
+  next from = rw (question-accepted s (state-unbroken ready calls), state-buckets first calls) (reads-next reads from)
 
   -- §21.6: on an opened board the display is told what stands there
-  pub displays : Displays o calls
+  pub displays : Displays first calls
   displays =
       record {
         reads = reads;
         total = total;
-        counted = counted o calls;
+        counted = counted ready calls;
         next = next;
-        first = λ from. rw (next from) (first-is (occupiedAt (s .board)) n from);
-        turns = λ i. not-eleven _ (inr (turn-numbers s (state-unbroken o calls) i));
-        retirings = λ i. not-eleven _ (inr (retire-numbers s (state-unbroken o calls) i));
-        runs = λ turns. not-eleven _ (run-stops-by s (state-unbroken o calls) turns);
+        is-next = λ from. rw (next from) (first-is (occupiedAt (s .board)) n from);
+        turns = λ i. not-eleven _ (inr (turn-numbers s (state-unbroken ready calls) i));
+        retirings = λ i. not-eleven _ (inr (retire-numbers s (state-unbroken ready calls) i));
+        runs = λ turns. not-eleven _ (run-stops-by s (state-unbroken ready calls) turns);
       }
 
   -- `desk_total` refuses nothing there, and hands the number of valid slots to C
@@ -73,4 +74,4 @@ module _ (o : Opening) (calls : List Call) where
 
   -- and `desk_next_occupied` the first occupied bucket, or that there is none
   pub library-next : (from : ℕ) → NextTells (s .board) n from (nextTold (nextCall (s .board) (s .index) (s .floor) from))
-  library-next from = tells-next (s .board) n from (nextCall (s .board) (s .index) (s .floor) from) (displays .first from)
+  library-next from = tells-next (s .board) n from (nextCall (s .board) (s .index) (s .floor) from) (displays .is-next from)

@@ -22,6 +22,7 @@ use Rattle.history.proofs.Cuts.{none-nil}
 use Rattle.history.proofs.Histories.{traceFrom-append}
 use Rattle.history.proofs.Found.{At, cut-by-number, none-counted, ended, none-ended}
 use Rattle.history.proofs.Numbered.{answered-ends}
+use Rattle.history.proofs.Opened.{opening-ready}
 use Rattle.history.proofs.Cells.{marked-few}
 use Rattle.history.proofs.HowLong.{how-long}
 use Rattle.history.proofs.Reached.{oneWorker, computed}
@@ -61,7 +62,7 @@ rested es n answer at =
     })
 
 -- a call of worker 0 that starts after some calls, which leave the state s with worker 0 at no call
-module _ (first : List Call) (s : State) (is : state oneWorker first ≡ s) (rest : AtRest 0 (trace oneWorker first)) where
+module _ (first : List Call) (s : State) (is : state (opened oneWorker) first ≡ s) (rest : AtRest 0 (trace (opened oneWorker) first)) where
   -- its start, and so many turns of it
   module _ (start : Call) (more : ℕ) where
     abbrev between : List Entry
@@ -92,19 +93,19 @@ module _ (first : List Call) (s : State) (is : state oneWorker first ≡ s) (res
         → end action answer left .was .kind ≡ kind
         → ownTurns 0 between + 1 ≡ turns
         → total others between ≡ 0
-        → Takes oneWorker (first ++ calls) kind turns
+        → Takes (opened oneWorker) (first ++ calls) kind turns
     takes calls kind turns action answer left cut unended of-kind number none =
         record {
           at =
               record {
-                before = trace oneWorker first;
+                before = trace (opened oneWorker) first;
                 between = between;
                 turn = end action answer left;
                 after = [];
                 cut =
                     traceFrom-append (opened oneWorker) first calls
-                    ∙ ap (λ (t : State). trace oneWorker first ++ traceFrom t calls) is
-                    ∙ ap (λ (es : List Entry). trace oneWorker first ++ es) cut;
+                    ∙ ap (λ (t : State). trace (opened oneWorker) first ++ traceFrom t calls) is
+                    ∙ ap (λ (es : List Entry). trace (opened oneWorker) first ++ es) cut;
                 rested = rest;
                 unended = none-ended (end action answer left) between unended;
               };
@@ -121,7 +122,7 @@ abbrev oneBucket : List ℕ → ℕ → State
 oneBucket bucket last =
     record {
       board = bucket;
-      floor = record { workers = 1; buckets = 1; last = last };
+      floor = record { workers = 1; buckets = 1; last = last; version = 0 };
       records = idle ∷ [];
       index = last ∷ 1 ∷ 0 ∷ 0 ∷ 0 ∷ [];
     }
@@ -142,42 +143,42 @@ closedWord = 1103806595075
 abbrev three : State
 three = oneBucket (fullWord ∷ 7 ∷ 8 ∷ 9 ∷ 1 ∷ 2 ∷ 3 ∷ 0 ∷ []) 3
 
-two-is : state oneWorker twoLots ≡ two
+two-is : state (opened oneWorker) twoLots ≡ two
 unfolding computed
 two-is = refl
 
-two-rested : AtRest 0 (trace oneWorker twoLots)
+two-rested : AtRest 0 (trace (opened oneWorker) twoLots)
 unfolding computed
-two-rested = rested (trace oneWorker twoLots) 22 1 ((refl, refl), refl)
+two-rested = rested (trace (opened oneWorker) twoLots) 22 1 ((refl, refl), refl)
 
-three-is : state oneWorker threeLots ≡ three
+three-is : state (opened oneWorker) threeLots ≡ three
 unfolding computed
 three-is = refl
 
-three-rested : AtRest 0 (trace oneWorker threeLots)
+three-rested : AtRest 0 (trace (opened oneWorker) threeLots)
 unfolding computed
-three-rested = rested (trace oneWorker threeLots) 35 1 ((refl, refl), refl)
+three-rested = rested (trace (opened oneWorker) threeLots) 35 1 ((refl, refl), refl)
 
 -- ---- the figures
 
 -- §15.1: there is a look that takes ten turns
-pub look-takes-ten : Takes oneWorker longestLook lookKind lookMost
+pub look-takes-ten : Takes (opened oneWorker) longestLook lookKind lookMost
 unfolding computed
 look-takes-ten = takes threeLots three three-is three-rested (look 0 9) 9 (look 0 9 ∷ turnsOf 0 lookMost ∷ []) lookKind lookMost Read 3 fullWord refl refl refl refl refl
 
 -- §15.1: there is a look that takes four
-pub look-takes-four : Takes oneWorker shortestLook lookKind lookLeast
+pub look-takes-four : Takes (opened oneWorker) shortestLook lookKind lookLeast
 unfolding computed
 look-takes-four = takes threeLots three three-is three-rested (look 0 7) 3 (look 0 7 ∷ turnsOf 0 lookLeast ∷ []) lookKind lookLeast Read 1 fullWord refl refl refl refl refl
 
 -- §15.2: there is a remove alone that takes six
-pub remove-takes-six : Takes oneWorker longestRemove removeKind removeMost
+pub remove-takes-six : Takes (opened oneWorker) longestRemove removeKind removeMost
 unfolding computed
 remove-takes-six =
     takes threeLots three three-is three-rested (remove 0 9) 5 (remove 0 9 ∷ turnsOf 0 removeMost ∷ []) removeKind removeMost Won 3 closedWord refl refl refl refl refl
 
 -- §15.3: there is an insert alone that takes thirteen
-pub insert-takes-thirteen : Takes oneWorker threeLots insertKind insertMost
+pub insert-takes-thirteen : Takes (opened oneWorker) threeLots insertKind insertMost
 unfolding computed
 insert-takes-thirteen =
     takes twoLots two two-is two-rested (insert 0 9 (ticket 3)) 12 (insert 0 9 (ticket 3) ∷ turnsOf 0 insertMost ∷ []) insertKind insertMost Won 1 fullWord
@@ -194,6 +195,6 @@ no-room (inr there) =
     (omega (arith, marked-few _ (there .slot) (there .valid))) (there .key)
 
 -- §15.3: there is an insert alone that never ends
-pub insert-goes-round : StartsSo (state oneWorker threeLots) 0 (insertBy (state oneWorker threeLots) 0 10 (ticket 4)) (λ t. NeverEndsAlone t 0)
+pub insert-goes-round : StartsSo (state (opened oneWorker) threeLots) 0 (insertBy (state (opened oneWorker) threeLots) 0 10 (ticket 4)) (λ t. NeverEndsAlone t 0)
 insert-goes-round =
-    how-long oneWorker threeLots .alone .insert-never 0 10 (ticket 4) (rw three-is) (rw three-is (omega arith)) (rw three-is no-room)
+    how-long (opening-ready oneWorker) threeLots .alone .insert-never 0 10 (ticket 4) (rw three-is) (rw three-is (omega arith)) (rw three-is no-room)

@@ -20,11 +20,11 @@ use Rattle.history.proofs.Behind.{BehindIn, act-behind, start-behind}
 use Rattle.history.proofs.Minds.{moves-minds}
 use Rattle.history.proofs.Charges.{Pays, moves-pays, stale, stale-le, not-stale, stale-same, quiet-pays, change-fresh}
 
--- a floor of so many workers and n buckets, opened at a version; the entries so far, the newest first; calls that may make k changes
-pub record Good (workers n version : ℕ) (s : View) (past : List Entry) (k : ℕ) : Type 0 where
+-- a floor of so many workers and n buckets, with these mark words at first; the entries so far, the newest first; calls that may make k changes
+pub record Good (workers n : ℕ) (first : ℕ → ℕ) (s : View) (past : List Entry) (k : ℕ) : Type 0 where
   pub listed : length (s .records) ≡ workers
   pub kept : Kept n s
-  pub tells : (b : ℕ) → b < n → Tells version b past (s .marks b)
+  pub tells : (b : ℕ) → b < n → Tells (first b) b past (s .marks b)
   -- §3.6: what moved a version and the inserts under way are together no more than the last ticket, which is below 2^32
   pub tickets : total bumpOf past + total inserting (s .records) ≤ s .last
   pub fits : s .last < 2 ^ 32
@@ -35,10 +35,10 @@ pub record Good (workers n version : ℕ) (s : View) (past : List Entry) (k : �
   -- a change is one that the call's start has paid for
   pub budget : changesIn past + total left (s .records) ≤ k
 
-module _ (workers n version : ℕ) where
+module _ (workers n : ℕ) (first : ℕ → ℕ) where
   module _
       (s : View) (e : Entry) (v : Worker) (t : View) (act : Acts n s e v t)
-      (past : List Entry) (k : ℕ) (good : Good workers n version s past k) where
+      (past : List Entry) (k : ℕ) (good : Good workers n first s past k) where
     abbrev w : Worker
     w = worker s (who e)
 
@@ -84,13 +84,13 @@ module _ (workers n version : ℕ) where
         ))
 
     -- a turn and a retiring keep it all
-    pub act-good : Good workers n version t (e ∷ past) k
+    pub act-good : Good workers n first t (e ∷ past) k
     unfolding total
     act-good =
         record {
           listed = rw (act .records) (length-set (s .records) (who e) v ∙ good .listed);
           kept = act-kept n s e v t (good .kept) act;
-          tells = λ b under. act-tells version n s e v t (good .kept) act past b (good .tells b under);
+          tells = λ b under. act-tells (first b) n s e v t (good .kept) act past b (good .tells b under);
           tickets = rw (act .last) (omega (arith, act .bumps, good .tickets, spends inserting (bumped effect) (pays .bump)));
           fits = rw (act .last) (good .fits);
           behind = act-behind n s e v t act past (good .behind);
@@ -106,7 +106,7 @@ module _ (workers n version : ℕ) where
         rw (start .records) (omega (arith, more))
 
     -- so does a start, which brings its call's changes
-    start-good : (past : List Entry) (k : ℕ) → Good workers n version s past k → Good workers n version t past (left v + k)
+    start-good : (past : List Entry) (k : ℕ) → Good workers n first s past k → Good workers n first t past (left v + k)
     start-good past k good =
         let stale-then = stale n (s .marks) in
         let stale-now = stale n (t .marks) in
@@ -125,9 +125,9 @@ module _ (workers n version : ℕ) where
 
   -- and so does every walk
   pub walk-good :
-      {s u : View} {es : List Entry} {j : ℕ} → Walk n s es j u → (past : List Entry) (k : ℕ) → Good workers n version s past k
-      → Good workers n version u (onto es past) (j + k)
-  walk-good stays past k good = subst (Good workers n version _ past) (omega arith) good
+      {s u : View} {es : List Entry} {j : ℕ} → Walk n s es j u → (past : List Entry) (k : ℕ) → Good workers n first s past k
+      → Good workers n first u (onto es past) (j + k)
+  walk-good stays past k good = subst (Good workers n first _ past) (omega arith) good
   walk-good (starts start rest) past k good =
-      subst (Good workers n version _ _) (omega arith) (walk-good rest past _ (start-good _ _ _ start past k good))
+      subst (Good workers n first _ _) (omega arith) (walk-good rest past _ (start-good _ _ _ start past k good))
   walk-good (acts act rest) past k good = walk-good rest (_ ∷ past) k (act-good _ _ _ _ act past k good)

@@ -1,4 +1,4 @@
--- How long a call can keep its worker, for every opening and every list of calls, with no other premise. Assumes nothing.
+-- How long a call can keep its worker, wherever a stretch can begin and for every list of calls, with no other premise. Assumes nothing.
 use Prim.Native.Nat.{ℕ, _≤_, _<_}
 use mathlib.Core.Bool.{Bool, false}
 use mathlib.Core.List.{List, [], _∷_, _++_}
@@ -23,14 +23,15 @@ use Rattle.engine.specs.Board.{bucketOf, bucketAt}
 use Rattle.engine.specs.Refusals.{spent}
 use Rattle.engine.specs.Calls.{blank, recordIn, spending, startCall}
 use Rattle.engine.proofs.Sizes.{right-listed}
-use Rattle.history.specs.History.{State, Opening, Call, Ticket, look, insert, remove, workersOf, listedOf, recordOf, seatOf, turnBy, lookBy, insertBy, removeBy}
-use Rattle.history.specs.History.{startedAs, after, state, opened}
+use Rattle.history.specs.History.{State, Call, Ticket, look, insert, remove, workersOf, listedOf, recordOf, seatOf, turnBy, lookBy, insertBy, removeBy}
+use Rattle.history.specs.History.{startedAs, after, state}
 use Rattle.history.specs.Unbroken.{Unbroken}
 use Rattle.history.specs.Cells.{home}
 use Rattle.history.specs.HowLong.{lookMost, removeMost, insertMost, IsIdle, EndsAlone, NeverEndsAlone, HasRoom, HasLot, StartsSo, IsDone, HowLong}
 use Rattle.history.proofs.Acting.{entry, done-is}
 use Rattle.history.proofs.Listed.{up-is}
 use Rattle.history.proofs.Histories.{stateFrom-then}
+use Rattle.history.proofs.Ready.{Ready}
 use Rattle.history.proofs.Unrefused.{busy-moves, idle-starts}
 use Rattle.history.proofs.Unbroken.{state-unbroken, number-is}
 use Rattle.history.proofs.SameSizes.{state-workers}
@@ -47,11 +48,11 @@ use Rattle.history.proofs.Circling.{CircleAlone, circle-started, circle
 -- ---- a busy worker
 
 -- on an opened board a turn of a busy worker is done
-busy-done : (o : Opening) (calls : List Call) (i : ℕ) → i < workersOf o → (IsIdle (state o calls) i → ⊥) → IsDone (turnBy (state o calls) i)
-busy-done o calls i under busy =
-    let s = state o calls in
-    let ok = state-unbroken o calls in
-    let none = number-is s ok i (busy-moves s ok i (omega (arith, under, state-workers o calls)) busy) in
+busy-done : {first : State} (ready : Ready first) (calls : List Call) (i : ℕ) → i < workersOf first → (IsIdle (state first calls) i → ⊥) → IsDone (turnBy (state first calls) i)
+busy-done {first} ready calls i under busy =
+    let s = state first calls in
+    let ok = state-unbroken ready calls in
+    let none = number-is s ok i (busy-moves s ok i (omega (arith, under, state-workers first calls)) busy) in
     (entry s i .report, ap (λ (x : After Turned). x .handed .answer) (done-is s i none))
 
 -- ---- a look, as a call that can take so many turns
@@ -81,22 +82,22 @@ idle-within records i rests = by (decLe (length records) i)
     by (yes past) =
         absurd (omega (arith, ap (λ (w : Worker). w .held) (sym rests ∙ List·getD-eq-default records blank {n = i} past)))
 
-module _ (o : Opening) (calls : List Call) (i : ℕ) (rests : IsIdle (state o calls) i) where
+module _ {first : State} (ready : Ready first) (calls : List Call) (i : ℕ) (rests : IsIdle (state first calls) i) where
   abbrev s : State
-  s = state o calls
+  s = state first calls
 
   within : i < length (s .records)
   within = idle-within (s .records) i rests
 
   under : i < s .floor .workers
-  under = omega (arith, within, right-listed _ _ _ (state-unbroken o calls .sized))
+  under = omega (arith, within, right-listed _ _ _ (state-unbroken ready calls .sized))
 
   -- what a call leaves is of a history too
   then-unbroken : (c : Call) → Unbroken (after s c)
-  then-unbroken c = subst Unbroken (stateFrom-then (opened o) calls c) (state-unbroken o (calls ++ (c ∷ [])))
+  then-unbroken c = subst Unbroken (stateFrom-then first calls c) (state-unbroken ready (calls ++ (c ∷ [])))
 
   then-known : (c : Call) → Known (after s c)
-  then-known c = subst Known (stateFrom-then (opened o) calls c) (state-known o (calls ++ (c ∷ [])))
+  then-known c = subst Known (stateFrom-then first calls c) (state-known ready (calls ++ (c ∷ [])))
 
   -- a start of v that is not late, on a floor of the same sizes
   module _ (late : Bool) (v : Worker) (g : Floor) (early : late ≡ false) (up : v .asleep ≡ 0) (workers : g .workers ≡ s .floor .workers) where
@@ -109,7 +110,7 @@ module _ (o : Opening) (calls : List Call) (i : ℕ) (rests : IsIdle (state o ca
     -- such a start is accepted
     taken : x ≡ y
     unfolding startCall
-    taken = rw (idle-starts s (state-unbroken o calls) i under late rests early)
+    taken = rw (idle-starts s (state-unbroken ready calls) i under late rests early)
 
     record-is : recordOf (startedAs s i y) i ≡ v
     record-is = up-is (startedAs s i y) i ∙ ap awake (getD-set-same (s .records) i v blank within) ∙ is-awake v up
@@ -182,19 +183,19 @@ module _ (o : Opening) (calls : List Call) (i : ℕ) (rests : IsIdle (state o ca
         (then-unbroken (insert i lot ticket)) (then-known (insert i lot ticket)) CircleAlone (circle-started (bucket lot) lot (ticket .number) (λ lets. none (finds lets)))
         circle-goes
 
--- for every opening and every list of calls, how long a call can keep its worker
-pub how-long : (o : Opening) (calls : List Call) → HowLong o calls
-how-long o calls =
+-- wherever a stretch can begin and for every list of calls, how long a call can keep its worker
+pub how-long : {first : State} (ready : Ready first) (calls : List Call) → HowLong first calls
+how-long ready calls =
     record {
-      busy-moves = busy-done o calls;
+      busy-moves = busy-done ready calls;
       in-call = every-turn-in-call;
-      look-most = look-at-most o calls;
-      look-least = look-at-least o calls;
+      look-most = look-at-most ready calls;
+      look-least = look-at-least ready calls;
       alone =
           record {
-            look-ends = λ i lot rests. look-alone o calls i rests lot;
-            remove-ends = λ i lot rests. remove-alone o calls i rests lot;
-            insert-ends = λ i lot ticket rests fresh room. insert-alone o calls i rests lot ticket fresh room;
-            insert-never = λ i lot ticket rests fresh none. insert-never o calls i rests lot ticket fresh none;
+            look-ends = λ i lot rests. look-alone ready calls i rests lot;
+            remove-ends = λ i lot rests. remove-alone ready calls i rests lot;
+            insert-ends = λ i lot ticket rests fresh room. insert-alone ready calls i rests lot ticket fresh room;
+            insert-never = λ i lot ticket rests fresh none. insert-never ready calls i rests lot ticket fresh none;
           };
     }

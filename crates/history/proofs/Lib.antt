@@ -2,6 +2,10 @@
 pub mod DemandThree
 pub mod Reports
 pub mod Openings
+pub mod Moved
+pub mod Through
+pub mod Ledger
+pub mod MoveTells
 pub mod NoValueComesBack
 pub mod Unbroken
 pub mod Unrefused
@@ -15,9 +19,11 @@ pub mod Sleepers
 pub mod Figures
 pub mod Reached
 pub mod ValuesReached
+pub mod MovesReached
 -- what a history is
 pub mod Library
 pub mod Listed
+pub mod Ready
 pub mod Opened
 pub mod Runs
 pub mod Histories

@@ -1,8 +1,10 @@
--- What a start, a turn, a retiring and a run leave in a history is what the library promises to leave of the lent board, the lent list and the
+-- What a start, a turn, a retiring, a run and a move leave in a history is what the library promises to leave of the lent board, the lent list and the
 -- lent index. An opening is the same function there and here. Assumes nothing.
 use Prim.Native.Nat.{ℕ}
 use mathlib.Core.List.{List, [], _∷_, nil≢cons, head-eq-of-cons-eq}
-use mathlib.Core.Path.{_≡_, refl, ap, subst, _∙_}
+use mathlib.Core.Bool.{cond}
+use mathlib.Core.Path.{_≡_, refl, sym, ap, subst, _∙_}
+use lib.Dec.{eqb}
 use Rattle.turn.specs.declared.Worker.{Worker}
 use Rattle.turn.specs.declared.Report.{Report}
 use Rattle.turn.specs.Turn.{Answer, Refused, Done}
@@ -12,10 +14,13 @@ use Rattle.engine.specs.declared.Started.{Started}
 use Rattle.hall.specs.Calls.{indexed}
 use Rattle.floor.specs.Told.{reportTold, turnTold, runTold}
 use Rattle.floor.specs.Calls.{onList, startIn, turnIn, retireIn, runIn}
+use Rattle.floor.specs.declared.Outcome.{Outcome}
+use Rattle.floor.specs.Promises.{MoveLeft}
 use Rattle.history.specs.Trace.{Turn, Entry, acted, IsTurn}
 use Rattle.history.specs.Counts.{countsOf}
 use Rattle.history.specs.Reports.{lastReport, InNumbers, OnlyAction}
 use Rattle.history.specs.History.{State, turn, retire, run, listedOf, seatOf, turnBy, retireBy, runOf, startedAs, after, entryOf, turnEntry, entries}
+use Rattle.history.specs.Moves.{Lent, moves, moveBy, movedAs, afterStep}
 use Rattle.history.proofs.Runs.{run-totals, run-last}
 
 module _ (s : State) (i : ℕ) where
@@ -48,6 +53,21 @@ module _ (s : State) (turns : List ℕ) where
       (Turn.after (after s (run turns) .board)
       (onList (after s (run turns) .records) (runTold (lastReport Turn.noReport es) (countsOf es) (runOf s turns .handed .stop))))
   library-run = rw (← run-totals s turns, ← run-last s turns)
+
+-- a move: where it is accepted the second board is the opened one from then on, else the first still is
+pub library-move :
+    (s : State) (m : Lent) (board index : List ℕ) (r : Outcome)
+    → MoveLeft (s .board) (m .words) (s .records) (s .index) (s .floor) (m .buckets) board index r
+    → afterStep s (moves m)
+    ≡ record { board = cond (eqb (r .refusal) 0) board (s .board); floor = r .floor; records = s .records; index = index }
+library-move s m board index r left =
+    let same : moveBy s m ≡ Turn.after board (record { floor = r .floor; refusal = r .refusal }) = sym (left .whole) in
+    ap (movedAs s m) same ∙ ap (λ (kept : List ℕ). record {
+      board = cond (eqb (r .refusal) 0) board (s .board);
+      floor = r .floor;
+      records = s .records;
+      index = kept;
+    }) (sym (left .kept))
 
 -- ---- what C is told of a report
 

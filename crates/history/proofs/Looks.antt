@@ -11,10 +11,10 @@ use Rattle.engine.specs.Board.{bucketAt}
 use Rattle.history.specs.Trace.{Turn, Retiring, Entry, acted, retired, IsTurn, Ends, Continues}
 use Rattle.history.specs.InCall.{InCall, numberInCall}
 use Rattle.history.specs.HowLong.{lookLeast, lookMost}
-use Rattle.history.specs.History.{State, Opening, Call, opened, recordOf, state, trace}
+use Rattle.history.specs.History.{State, Call, recordOf, state, trace}
 use Rattle.history.proofs.View.{each-worker}
 use Rattle.history.proofs.States.{view}
-use Rattle.history.proofs.Beginning.{rests}
+use Rattle.history.proofs.Ready.{Ready, rests}
 use Rattle.history.proofs.Cuts.{no-cut}
 use Rattle.history.proofs.Later.{CutLast, last, sooner, cut-last}
 use Rattle.history.proofs.Steps.{Begins, StartOf, of-look, of-insert, of-remove, Turns, Retires, stepOf, calls-last}
@@ -135,16 +135,16 @@ retire-numbered {s} {t} {r} past act old =
 
 -- ---- histories
 
-module _ (o : Opening) where
-  opened-numbered : Numbered (opened o) []
+module _ {first : State} (ready : Ready first) where
+  ready-numbered : Numbered first []
   unfolding hadFrom
-  opened-numbered =
+  ready-numbered =
       record {
-        each = λ i. record { rests = λ is. refl; looks = λ look. absurd (omega (arith, look, rests o i .kind)) };
+        each = λ i. record { rests = λ is. refl; looks = λ look. absurd (omega (arith, look, rests ready i .kind)) };
         turns = λ before e later cut. absurd (no-cut before (acted e) later cut);
       }
 
-  numbered : (calls : List Call) → Numbered (state o calls) (trace o calls)
+  numbered : (calls : List Call) → Numbered (state first calls) (trace first calls)
   numbered calls =
       calls-last (λ s past ts. Numbered s past)
       (record {
@@ -152,9 +152,9 @@ module _ (o : Opening) where
         turns = λ past ts act old. turn-numbered past act old;
         retires = λ past ts act old. retire-numbered past act old;
       })
-      calls (opened o) [] [] opened-numbered
+      calls first [] [] ready-numbered
 
-  module _ (calls : List Call) (at : InCall (trace o calls)) (look : at .turn .was .kind ≡ lookKind) where
+  module _ (calls : List Call) (at : InCall (trace first calls)) (look : at .turn .was .kind ≡ lookKind) where
     within : Within (at .before ++ at .between) (at .turn)
     within = numbered calls .turns _ (at .turn) (at .after) (at .cut ∙ sym (append-assoc (at .before) (at .between) (acted (at .turn) ∷ at .after))) look
 

@@ -1,5 +1,5 @@
--- On an opened board a count tells the commits less the closes. The mark word of each bucket tells those of that bucket (Versions), every
--- entry is in one of the buckets, and so they add up as a count adds up the buckets. Assumes nothing.
+-- On an opened board a count tells the lots at first and the commits, less the closes. The mark word of each bucket tells those of that bucket
+-- (Versions), every entry is in one of the buckets, and so they add up as a count adds up the buckets. Assumes nothing.
 use Prim.Native.Nat.{ℕ, zero, suc, _+_, _-_, _≤_, _<_}
 use mathlib.Core.List.{List, [], _∷_}
 use mathlib.Core.Path.{_≡_, refl, ap, _∙_}
@@ -12,13 +12,13 @@ use Rattle.engine.specs.Calls.{countCall}
 use Rattle.floor.specs.Told.{countTold}
 use Rattle.history.specs.Trace.{Entry, who, bucketIn, total}
 use Rattle.history.specs.Counts.{commitsIn, closesIn}
-use Rattle.history.specs.History.{State, Opening, Call, state, trace}
+use Rattle.history.specs.History.{State, Call, bucketsOf, state, trace}
 use Rattle.history.specs.Lots.{CountTells}
 use Rattle.history.proofs.View.{View, Walk, stays, starts, acts, worker}
 use Rattle.history.proofs.States.{view}
 use Rattle.history.proofs.Counts.{commitOf, closeOf, inBucket, in-bucket, out-of-bucket, onto, total-onto}
 use Rattle.history.proofs.Versions.{Tells}
-use Rattle.history.proofs.Opened.{opened-right}
+use Rattle.history.proofs.Ready.{Ready, ready-right}
 use Rattle.history.proofs.Walking.{history-walk}
 use Rattle.history.proofs.Beginning.{history-good}
 use Rattle.history.proofs.SameSizes.{state-buckets}
@@ -72,46 +72,46 @@ module _ (count : Entry → ℕ) where
 
 -- what the mark words tell one by one, a count tells of all of them
 lots-tell :
-    (s : State) (v : ℕ) (past : List Entry) (n : ℕ)
-    → ((b : ℕ) → b < n → Tells v b past (view s .marks b))
-    → lotsOn (s .board) n + total (inFirst closeOf n) past ≡ total (inFirst commitOf n) past
+    (first s : State) (past : List Entry) (n : ℕ)
+    → ((b : ℕ) → b < n → Tells (view first .marks b) b past (view s .marks b))
+    → lotsOn (s .board) n + total (inFirst closeOf n) past ≡ lotsOn (first .board) n + total (inFirst commitOf n) past
 unfolding lotsOn
-lots-tell s v past zero tells = omega (arith, first-none closeOf past, first-none commitOf past)
-lots-tell s v past (suc n) tells =
+lots-tell first s past zero tells = omega (arith, first-none closeOf past, first-none commitOf past)
+lots-tell first s past (suc n) tells =
     omega (
       arith,
       first-next closeOf n past,
       first-next commitOf n past,
-      lots-tell s v past n (λ b under. tells b (omega arith)),
+      lots-tell first s past n (λ b under. tells b (omega arith)),
       tells n (omega arith) .valid,
     )
 
 -- ---- of a history
 
-module _ (o : Opening) (calls : List Call) where
+module _ {first : State} (ready : Ready first) (calls : List Call) where
   abbrev n : ℕ
-  n = o .plan .buckets
+  n = bucketsOf first
 
   -- the entries of the first n buckets, the newest first, count for what all count for
-  all-in : (count : Entry → ℕ) → total (inFirst count n) (onto (trace o calls) []) ≡ total count (trace o calls)
+  all-in : (count : Entry → ℕ) → total (inFirst count n) (onto (trace first calls) []) ≡ total count (trace first calls)
   unfolding total
   all-in count =
-      omega (arith, total-onto (inFirst count n) (trace o calls) [], first-all count (opened-right o .some-bucket) (history-walk o calls))
+      omega (arith, total-onto (inFirst count n) (trace first calls) [], first-all count (ready-right ready .some-bucket) (history-walk first calls))
 
-  balance : lotsOn (state o calls .board) n + closesIn (trace o calls) ≡ commitsIn (trace o calls)
+  balance : lotsOn (state first calls .board) n + closesIn (trace first calls) ≡ lotsOn (first .board) n + commitsIn (trace first calls)
   balance =
-      omega (arith, all-in closeOf, all-in commitOf, lots-tell (state o calls) (o .plan .version) _ n (history-good o calls .tells))
+      omega (arith, all-in closeOf, all-in commitOf, lots-tell first (state first calls) _ n (history-good ready calls .tells))
 
-  pub counted : countCall (state o calls .board) (state o calls .floor) ≡ Lots (lotsOn (state o calls .board) n)
+  pub counted : countCall (state first calls .board) (state first calls .floor) ≡ Lots (lotsOn (state first calls .board) n)
   unfolding countCall
-  counted = rw (count-accepted (state o calls) (state-unbroken o calls), state-buckets o calls)
+  counted = rw (count-accepted (state first calls) (state-unbroken ready calls), state-buckets first calls)
 
-  -- on an opened board a count tells the commits less the closes
-  pub count-tells : CountTells o calls
+  -- on an opened board a count tells the lots at first and the commits, less the closes
+  pub count-tells : CountTells first calls
   count-tells = record { covered = omega (arith, balance); told = counted ∙ ap Lots (omega (arith, balance)) }
 
-  -- on an opened board `desk_count` refuses nothing, and hands the commits less the closes to C
+  -- on an opened board `desk_count` refuses nothing, and hands that number to C
   pub library-count :
-      countTold (countCall (state o calls .board) (state o calls .floor))
-      ≡ record { lots = commitsIn (trace o calls) - closesIn (trace o calls); refusal = 0 }
+      countTold (countCall (state first calls .board) (state first calls .floor))
+      ≡ record { lots = lotsOn (first .board) n + commitsIn (trace first calls) - closesIn (trace first calls); refusal = 0 }
   library-count = ap countTold (count-tells .told)

@@ -1,44 +1,41 @@
--- What an accepted opening leaves, and that there is one for any number of workers and buckets in range. Assumes nothing.
-use Prim.Native.Nat.{ℕ, zero, suc, _+_, _*_, _^_, _≤_, _<_}
+-- What an accepted opening leaves: empty buckets and idle workers, so that a stretch can begin there; and that there is one for any number of
+-- workers and buckets in range. Assumes nothing.
+use Prim.Native.Nat.{ℕ, zero, suc, _*_, _^_, _≤_, _<_}
 use mathlib.Core.Bool.{false}
-use mathlib.Core.List.{List, [], _∷_, _++_, map}
+use mathlib.Core.List.{List, []}
 use mathlib.Core.Logic.{_⊎_, inl, inr}
-use mathlib.Core.Path.{_≡_, refl, ap, _∙_}
+use mathlib.Core.Path.{_≡_, refl, sym, ap, subst, _∙_}
 use native.Mathlib.Decide.{decLe}
 use native.Mathlib.Omega.{arith}
 use lib.ListN.{length, replicate, drop-of-length-le, length-replicate, getD-replicate, List·getD-eq-default}
-use lib.Seq.{drop-drop}
 use borrow.Author.Tests.{eq-eqb}
+use Rattle.mark.specs.Word.{byte7, markOf, countMarks}
 use Rattle.mark.proofs.Choices.{passes}
-use Rattle.turn.specs.declared.Worker.{Worker}
+use Rattle.mark.proofs.Fields.{mark-none}
+use Rattle.mark.proofs.WellFormed.{well-formed}
 use Rattle.turn.specs.Worker.{idle}
-use Rattle.turn.specs.Asleep.{awake}
+use Rattle.turn.specs.Bucket.{cell, markCell, valueCell, brokenBucket}
+use Rattle.turn.proofs.Sound.{whole-not-broken}
+use Rattle.turn.proofs.Kept.{idle-kept}
 use Rattle.engine.specs.declared.Plan.{Plan}
-use Rattle.engine.specs.Board.{bucketAt, emptyBucket, openedBoard}
+use Rattle.engine.specs.Board.{bucketAt, emptyBucket, openedBoard, lotsOn}
 use Rattle.engine.specs.Refusals.{wrongSizes, openNumber}
-use Rattle.engine.specs.Calls.{planned, blank, recordIn}
-use Rattle.hall.specs.Index.{indexWords}
+use Rattle.engine.specs.Calls.{planned, blank}
+use Rattle.hall.specs.Index.{indexWords, totalIn}
 use Rattle.hall.specs.Refusals.{hallOpenNumber}
 use Rattle.hall.specs.Calls.{hallOpen}
 use Rattle.engine.specs.Room.{Right}
-use Rattle.engine.proofs.Buckets.{length-opened}
+use Rattle.engine.proofs.Buckets.{length-opened, opened-bucket}
 use Rattle.engine.proofs.Sizes.{right-sizes, right-listed, opens-right}
+use Rattle.hall.proofs.Reading.{reads-nothing}
 use Rattle.hall.proofs.Plain.{open-none, five-open}
-use Rattle.history.specs.History.{State, Opening, opened}
-use Rattle.history.proofs.View.{worker}
-use Rattle.history.proofs.States.{view}
+use Rattle.history.specs.History.{State, Opening, opened, workersOf, bucketsOf}
+use Rattle.history.specs.Values.{valueAt}
+use Rattle.history.specs.Cells.{markWordAt, markAt}
+use Rattle.history.specs.Unbroken.{Unbroken}
+use Rattle.history.proofs.Ready.{Ready}
 
 -- ---- the state that it leaves
-
--- an idle record, or none
-idle-in : (n i : ℕ) → Dec (n ≤ i) → (recordIn (replicate n idle) i ≡ idle) ⊎ (recordIn (replicate n idle) i ≡ blank)
-idle-in n i (yes past) = inr (List·getD-eq-default (replicate n idle) blank {n = i} (omega (arith, length-replicate n idle)))
-idle-in n i (no under) = inl (getD-replicate n i idle blank (omega arith))
-
--- idle records have slept for no turn
-pub idle-awake : (n : ℕ) → map awake (replicate n idle) ≡ replicate n idle
-idle-awake zero = refl
-idle-awake (suc n) = ap (λ (ws : List Worker). idle ∷ ws) (idle-awake n)
 
 module _ (o : Opening) where
   -- empty buckets at the plan's version, the plan's floor, idle workers, and five zeros
@@ -62,24 +59,20 @@ module _ (o : Opening) where
   opened-right = right-sizes _ _ _ right-sized
 
   -- there is a record for each worker
-  pub opened-listed : length (opened o .records) ≡ o .plan .workers
-  opened-listed =
-      ap (λ (s : State). length (s .records)) opened-is
-      ∙ length-replicate (length (o .lent .records)) idle
-      ∙ right-listed (planned (o .plan)) (o .lent .board) (length (o .lent .records)) right-sized
+  opened-listed : length (o .lent .records) ≡ o .plan .workers
+  opened-listed = right-listed (planned (o .plan)) (o .lent .board) (length (o .lent .records)) right-sized
 
-  -- which is idle; past the end of the list there is none
-  pub opened-idle : (i : ℕ) → (worker (view (opened o)) i ≡ idle) ⊎ (worker (view (opened o)) i ≡ blank)
-  opened-idle i = rw (opened-is, idle-awake (length (o .lent .records))) (idle-in (length (o .lent .records)) i (decLe (length (o .lent .records)) i))
+  -- W is the plan's
+  pub opened-workers : workersOf (opened o) ≡ o .plan .workers
+  opened-workers = ap workersOf opened-is
 
--- each bucket of an opened board is empty
-pub opened-bucket : (n v b : ℕ) → b < n → bucketAt (openedBoard n v) b ≡ emptyBucket v
-unfolding openedBoard
-opened-bucket zero v b under = absurd (omega arith)
-opened-bucket (suc n) v zero under = refl
-opened-bucket (suc n) v (suc b) under =
-    let more : 8 * suc b ≡ 8 + 8 * b = omega arith in
-    rw (more, ← drop-drop (8 * b) 8 (emptyBucket v ++ openedBoard n v)) (opened-bucket n v b (omega arith))
+  -- N is the plan's
+  pub opened-buckets : bucketsOf (opened o) ≡ o .plan .buckets
+  opened-buckets = ap bucketsOf opened-is
+
+  -- no ticket is spent yet
+  pub opened-last : opened o .floor .last ≡ 0
+  opened-last = ap (λ (s : State). s .floor .last) opened-is
 
 -- a bucket of an opened board is the empty one, or past the last one it has no word
 pub opened-or-none : (n v b : ℕ) → (bucketAt (openedBoard n v) b ≡ emptyBucket v) ⊎ (bucketAt (openedBoard n v) b ≡ [])
@@ -87,7 +80,91 @@ opened-or-none n v b = by (decLe n b)
   where
     by : Dec (n ≤ b) → (bucketAt (openedBoard n v) b ≡ emptyBucket v) ⊎ (bucketAt (openedBoard n v) b ≡ [])
     by (yes past) = inr (rw (drop-of-length-le (openedBoard n v) {i = 8 * b} (omega (arith, length-opened v n))))
-    by (no under) = inl (opened-bucket n v b (omega arith))
+    by (no under) = inl (opened-bucket v n b (omega arith))
+
+-- ---- empty buckets
+
+-- an empty bucket at a version of 32 bits is not broken
+empty-unbroken : (v : ℕ) → v < 2 ^ 32 → brokenBucket (emptyBucket v) ≡ false
+unfolding byte7
+empty-unbroken v fits =
+    whole-not-broken (emptyBucket v)
+    (record { eight = refl; formed = well-formed v (λ i slot. omega (arith, mark-none v fits i)) (omega arith); spare = refl })
+
+-- nothing is valid in it
+nothing-valid : (v : ℕ) → v < 2 ^ 32 → countMarks 1 v ≡ 0
+unfolding countMarks
+nothing-valid v fits = rw (mark-none v fits 0, mark-none v fits 1, mark-none v fits 2)
+
+-- and it has no value
+empty-value : (v p : ℕ) → cell (emptyBucket v) (valueCell p) ≡ 0
+empty-value v zero = refl
+empty-value v (suc zero) = refl
+empty-value v (suc (suc zero)) = refl
+empty-value v (suc (suc (suc zero))) = refl
+empty-value v (suc (suc (suc (suc p)))) = List·getD-eq-default (emptyBucket v) 0 {n = valueCell (suc (suc (suc (suc p))))} (omega arith)
+
+-- ---- a stretch can begin there
+
+module _ (o : Opening) where
+  abbrev n : ℕ
+  n = o .plan .buckets
+
+  abbrev v : ℕ
+  v = o .plan .version
+
+  -- what holds of the empty bucket and of none holds of each
+  each-bucket : (P : List ℕ → Type 0) → P (emptyBucket v) → P [] → (b : ℕ) → P (bucketAt (opened o .board) b)
+  each-bucket P empty none b = subst (λ (s : State). P (bucketAt (s .board) b)) (sym (opened-is o)) (by (opened-or-none n v b))
+    where
+      by : (bucketAt (openedBoard n v) b ≡ emptyBucket v) ⊎ (bucketAt (openedBoard n v) b ≡ []) → P (bucketAt (openedBoard n v) b)
+      by (inl is) = rw is empty
+      by (inr is) = rw is none
+
+  -- no slot of an opened board has a mark
+  pub opened-mark : (b p : ℕ) → markAt (opened o) b p ≡ 0
+  opened-mark b p = each-bucket (λ (l : List ℕ). markOf (cell l markCell) p ≡ 0) (mark-none v (o .version-fits) p) (mark-none 0 (omega arith) p) b
+
+  -- an opening leaves 0 as every value
+  pub opened-value : (b p : ℕ) → valueAt (opened o) b p ≡ 0
+  opened-value b p = each-bucket (λ (l : List ℕ). cell l (valueCell p) ≡ 0) (empty-value v p) refl b
+
+  -- §2.10: the mark word of each bucket is that of an empty one at the plan's version
+  pub opened-word : (b : ℕ) → b < n → markWordAt (opened o) b ≡ cell (emptyBucket v) markCell
+  opened-word b under = ap (λ (s : State). markWordAt s b) (opened-is o) ∙ ap (λ (l : List ℕ). cell l markCell) (opened-bucket v n b under)
+
+  -- an opening leaves nothing broken, whatever it was lent
+  opened-unbroken : Unbroken (opened o)
+  unfolding wrongSizes
+  opened-unbroken =
+      let listed = length (o .lent .records) in
+      let sized : wrongSizes (planned (o .plan)) (o .lent .board) listed ≡ false = right-sized o in
+      rw (opened-is o)
+      (record {
+        sized = rw (length-replicate listed idle, length-opened v n) (rw (opened-right o .words) at sized);
+        records = λ i under. rw (getD-replicate listed i idle blank (omega (arith, opened-listed o))) idle-kept;
+        buckets = λ b under. rw (opened-bucket v n b under) (empty-unbroken v (o .version-fits));
+        reads =
+            reads-nothing (openedBoard n v) n (opened-right o .buckets)
+            (λ b under. rw (opened-bucket v n b under) (nothing-valid v (o .version-fits)));
+      })
+
+  -- no lot is on an opened board
+  pub opened-lots : lotsOn (opened o .board) (bucketsOf (opened o)) ≡ 0
+  opened-lots = sym (opened-unbroken .reads .total) ∙ ap (λ (s : State). totalIn (s .index)) (opened-is o)
+
+  -- an opening leaves a state in which a stretch can begin
+  pub opening-ready : Ready (opened o)
+  opening-ready =
+      record {
+        unbroken = opened-unbroken;
+        idle = rw (opened-is o) (ap (λ (n : ℕ). replicate n idle) (opened-listed o));
+        last-fits = omega (arith, opened-last o);
+        version-fits = rw (opened-is o) (o .version-fits);
+        unheld = λ b p two. omega (arith, two, opened-mark b p);
+        stands = λ b p one. absurd (omega (arith, one, opened-mark b p));
+        values = λ b p. omega (arith, opened-value b p);
+      }
 
 -- ---- the plans that have one
 

@@ -1,5 +1,5 @@
--- Whatever is asked, openings among it, what stands then is what the history since the last accepted opening leaves, and the theorems of
--- histories hold of that. Assumes nothing.
+-- Whatever is asked, openings and moves among it, what stands then is what the history since the last of them that was accepted leaves, and the
+-- theorems of histories hold of that. Assumes nothing.
 use Prim.Native.Nat.{_^_, _<_}
 use mathlib.Core.Bool.{false}
 use mathlib.Core.List.{List, [], _∷_, _++_, append-assoc, append-nil}
@@ -19,10 +19,15 @@ use Rattle.hall.proofs.Plain.{open-none, five-open}
 use Rattle.history.specs.Trace.{Entry}
 use Rattle.history.specs.Cells.{Cells}
 use Rattle.history.specs.Unbroken.{Unbroken}
-use Rattle.history.specs.History.{State, Opening, Call, opened, state, stateFrom, traceFrom}
+use Rattle.history.specs.Moved.{MoveTells, MoveRefusals}
+use Rattle.history.specs.History.{State, Opening, Call, workersOf, bucketsOf, state, stateFrom, traceFrom}
 use Rattle.history.specs.Openings.{Asked, asks, opens, reopenNumber, leaves, turnsBy, leavesAll, turnsByAll}
-use Rattle.history.specs.Openings.{History, stateSince, turnsSince, fromOpening, reopened, goesOn, since, AnyOrder}
+use Rattle.history.specs.Openings.{History, stateSince, turnsSince, fromOpening, reopened, movedOn, goesOn, since, AnyOrder}
+use Rattle.history.specs.Moves.{calls, moves, moveNumberOf}
 use Rattle.history.proofs.Histories.{stateFrom-then, traceFrom-then}
+use Rattle.history.proofs.Ready.{Ready}
+use Rattle.history.proofs.Opened.{opening-ready}
+use Rattle.history.proofs.Moved.{state-in-stretch, move-done, moves-refused}
 use Rattle.history.proofs.DemandThree.{demand-three}
 use Rattle.history.proofs.Reports.{reports-chain}
 use Rattle.history.proofs.SameSizes.{state-workers, state-buckets}
@@ -30,7 +35,9 @@ use Rattle.history.proofs.NoValueComesBack.{no-value-comes-back}
 use Rattle.history.proofs.Lots.{count-tells}
 use Rattle.history.proofs.HowLong.{how-long}
 use Rattle.history.proofs.Retirings.{retirings}
+use Rattle.history.proofs.Sleepers.{sleeps}
 use Rattle.history.proofs.Display.{displays}
+use Rattle.history.proofs.MoveTells.{move-tells, move-refusals}
 use Rattle.history.proofs.Cells.{state-cells}
 use Rattle.history.proofs.Unbroken.{state-unbroken}
 
@@ -52,15 +59,23 @@ module _ (h : History) (before : List Entry) where
   -- one thing more is asked
   goes-on : (a : Asked) → Follows (before ++ turnsSince h) (goesOn h a) (leaves (stateSince h) a) (turnsBy (stateSince h) a)
   unfolding stateFrom traceFrom
-  goes-on (asks c) =
+  goes-on (asks (calls c)) =
       record {
-        stands = sym (stateFrom-then (opened (h .opening)) (h .calls) c);
+        stands = sym (stateFrom-then (h .first) (h .calls) c);
         older = before;
         turns-are =
             append-assoc before (turnsSince h) _
             ∙ ap (λ (es : List Entry). before ++ es)
-            (sym (traceFrom-then (opened (h .opening)) (h .calls) c));
+            (sym (traceFrom-then (h .first) (h .calls) c));
       }
+  goes-on (asks (moves m)) = by (ℕ-discrete (moveNumberOf (stateSince h) m) 0)
+    where
+      by :
+          (d : Dec (moveNumberOf (stateSince h) m ≡ 0))
+          → Follows (before ++ turnsSince h) (movedOn h m d) (leaves (stateSince h) (asks (moves m))) []
+      by (yes accepted) = record { stands = refl; older = before ++ turnsSince h; turns-are = refl }
+      by (no refused) =
+          record { stands = moves-refused (stateSince h) m refused; older = before; turns-are = append-nil (before ++ turnsSince h) }
   goes-on (opens plan fits) = by (ℕ-discrete (reopenNumber (stateSince h) plan) 0)
     where
       by :
@@ -89,55 +104,80 @@ all-follow h before (a ∷ asked) =
           ∙ rest .turns-are;
     }
 
--- the theorems of histories, under any order of calls with openings among them
+-- where a history begins a stretch can begin, and so it is after one thing more that is asked
+goes-ready : (h : History) (a : Asked) → Ready (h .first) → Ready (goesOn h a .first)
+goes-ready h (asks (calls c)) ready = ready
+goes-ready h (asks (moves m)) ready = by (ℕ-discrete (moveNumberOf (stateSince h) m) 0)
+  where
+    by : (d : Dec (moveNumberOf (stateSince h) m ≡ 0)) → Ready (movedOn h m d .first)
+    by (yes accepted) = move-done (stateSince h) m (state-in-stretch ready (h .calls)) accepted .ready
+    by (no refused) = ready
+goes-ready h (opens plan fits) ready = by (ℕ-discrete (reopenNumber (stateSince h) plan) 0)
+  where
+    by : (d : Dec (reopenNumber (stateSince h) plan ≡ 0)) → Ready (reopened h plan fits d .first)
+    by (yes accepted) = opening-ready (record { lent = stateSince h; plan = plan; accepted = accepted; version-fits = fits })
+    by (no refused) = ready
+
+-- so after all that is asked
+all-ready : (h : History) (asked : List Asked) → Ready (h .first) → Ready (since h asked .first)
+unfolding since
+all-ready h [] ready = ready
+all-ready h (a ∷ asked) ready = all-ready (goesOn h a) asked (goes-ready h a ready)
+
+-- the theorems of histories, under any order of calls with openings and moves among them
 pub any-order : (o : Opening) (asked : List Asked) → AnyOrder o asked
 unfolding stateFrom traceFrom
 any-order o asked =
     let all = all-follow (fromOpening o) [] asked in
     let h = since (fromOpening o) asked in
+    let ready = all-ready (fromOpening o) asked (opening-ready o) in
     record {
       stands = all .stands;
       older = all .older;
       turns = all .turns-are;
-      demand = demand-three (h .opening) (h .calls);
-      values = no-value-comes-back (h .opening) (h .calls);
-      counted = count-tells (h .opening) (h .calls);
-      reports = reports-chain (h .opening) (h .calls);
-      lasting = how-long (h .opening) (h .calls);
-      retires = retirings (h .opening) (h .calls);
-      displayed = displays (h .opening) (h .calls);
-      cells = subst Cells (sym (all .stands)) (state-cells (h .opening) (h .calls));
-      unbroken = subst Unbroken (sym (all .stands)) (state-unbroken (h .opening) (h .calls));
+      demand = demand-three ready (h .calls);
+      values = no-value-comes-back ready (h .calls);
+      counted = count-tells ready (h .calls);
+      reports = reports-chain ready (h .calls);
+      lasting = how-long ready (h .calls);
+      retires = retirings ready (h .calls);
+      sleeping = sleeps ready (h .calls);
+      displayed = displays ready (h .calls);
+      moving = λ m.
+          subst (λ (s : State). moveNumberOf s m ≡ 0 → MoveTells s m) (sym (all .stands)) (move-tells ready (h .calls) m);
+      unmoved = λ m. subst (λ (s : State). MoveRefusals s m) (sym (all .stands)) (move-refusals ready (h .calls) m);
+      cells = subst Cells (sym (all .stands)) (state-cells ready (h .calls));
+      unbroken = subst Unbroken (sym (all .stands)) (state-unbroken ready (h .calls));
     }
 
 -- ---- which openings are accepted
 
-module _ (o : Opening) (calls : List Call) (plan : Plan) where
+module _ {first : State} (ready : Ready first) (calls : List Call) (plan : Plan) where
   abbrev s : State
-  s = state o calls
+  s = state first calls
 
   sized : wrongSizes (s .floor) (s .board) (length (s .records)) ≡ false
-  sized = state-unbroken o calls .sized
+  sized = state-unbroken ready calls .sized
 
   -- on the board and the list of a history an opening is accepted only for as many workers and buckets as there are
-  pub opens-same : reopenNumber s plan ≡ 0 → (plan .workers ≡ o .plan .workers) × (plan .buckets ≡ o .plan .buckets)
+  pub opens-same : reopenNumber s plan ≡ 0 → (plan .workers ≡ workersOf first) × (plan .buckets ≡ bucketsOf first)
   unfolding openNumber
   opens-same accepted =
       let plain = open-none (planned plan) (s .board) (s .index) (length (s .records)) accepted .1 in
       let now = passes (wrongSizes (planned plan) (s .board) (length (s .records))) 0 0 plain .0 in
       let words = right-sizes (planned plan) (s .board) _ now .words in
       let was = right-sizes (s .floor) (s .board) _ sized .words in (
-        sym (right-listed (planned plan) (s .board) _ now) ∙ right-listed (s .floor) (s .board) _ sized ∙ state-workers o calls,
-        omega (arith, words, was, state-buckets o calls),
+        sym (right-listed (planned plan) (s .board) _ now) ∙ right-listed (s .floor) (s .board) _ sized ∙ state-workers first calls,
+        omega (arith, words, was, state-buckets first calls),
       )
 
   -- and for those it is
-  pub same-opens : plan .workers ≡ o .plan .workers → plan .buckets ≡ o .plan .buckets → reopenNumber s plan ≡ 0
+  pub same-opens : plan .workers ≡ workersOf first → plan .buckets ≡ bucketsOf first → reopenNumber s plan ≡ 0
   same-opens workers buckets =
       let fits = right-sizes (s .floor) (s .board) _ sized in
-      let same-workers = workers ∙ sym (state-workers o calls) in
-      let same-buckets = buckets ∙ sym (state-buckets o calls) in
-      five-open (planned plan) (s .board) (s .index) (length (s .records)) (state-unbroken o calls .reads .five)
+      let same-workers = workers ∙ sym (state-workers first calls) in
+      let same-buckets = buckets ∙ sym (state-buckets first calls) in
+      five-open (planned plan) (s .board) (s .index) (length (s .records)) (state-unbroken ready calls .reads .five)
       ∙ opens-right (planned plan) (s .board) _
       (record {
         some-worker = omega (arith, same-workers, fits .some-worker);

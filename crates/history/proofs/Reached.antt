@@ -47,7 +47,7 @@ use Rattle.history.proofs.Histories.{stateFrom-append, traceFrom-append
 abbrev pub lent : (workers : ℕ) → hallOpenNumber (planned (planFor workers)) (replicate 8 1) (replicate 5 1) (length (replicate workers blank)) ≡ 0 → Opening
 lent workers accepted =
     record {
-      lent = record { board = replicate 8 1; floor = record { workers = 0; buckets = 0; last = 0 }; records = replicate workers blank; index = replicate 5 1 };
+      lent = record { board = replicate 8 1; floor = record { workers = 0; buckets = 0; last = 0; version = 0 }; records = replicate workers blank; index = replicate 5 1 };
       plan = planFor workers;
       accepted = accepted;
       version-fits = omega arith;
@@ -70,11 +70,11 @@ threeWorkers = lent 3 refl
 
 -- the trace of P6
 abbrev pub sleeperTrace : List Entry
-sleeperTrace = trace twoWorkers sleeper
+sleeperTrace = trace (opened twoWorkers) sleeper
 
 -- the trace of P11
 abbrev pub repeatedTrace : List Entry
-repeatedTrace = trace threeWorkers repeatedWord
+repeatedTrace = trace (opened threeWorkers) repeatedWord
 
 -- all that these traces are computed by: what unfolds this unfolds it
 unfoldable pub computed : Unit {0}
@@ -97,7 +97,7 @@ computed = tt
 pub record Reached (P : Entry → Type 0) : Type 0 where
   pub opening : Opening
   pub calls : List Call
-  pub some : Some P (trace opening calls)
+  pub some : Some P (trace (opened opening) calls)
 
 -- a retiring that gives a slot back
 abbrev Vacates : Entry → Type 0
@@ -122,18 +122,18 @@ every-kind-reached =
       committed = record { opening = twoWorkers; calls = sleeper; some = found (IsTurn Commits) sleeperTrace 10 (refl, refl) };
       closed = record { opening = twoWorkers; calls = sleeper; some = found (IsTurn Closes) sleeperTrace 17 (refl, refl) };
       freed = record { opening = threeWorkers; calls = repeatedWord; some = found (IsTurn Frees) repeatedTrace 37 (refl, refl) };
-      vacated = record { opening = twoWorkers; calls = retiredHolder; some = found Vacates (trace twoWorkers retiredHolder) 10 ((λ turn. turn), λ none. omega arith) };
+      vacated = record { opening = twoWorkers; calls = retiredHolder; some = found Vacates (trace (opened twoWorkers) retiredHolder) 10 ((λ turn. turn), λ none. omega arith) };
     }
 
 -- ---- how many
 
 -- a history of so many entries, changes, lost swaps, accepted inserts and accepted removes
 pub record Totals (o : Opening) (calls : List Call) (turns changed lost inserted removed : ℕ) : Type 0 where
-  pub turns-are : length (trace o calls) ≡ turns
-  pub changes-are : changesIn (trace o calls) ≡ changed
-  pub lost-are : lostSwaps (trace o calls) ≡ lost
-  pub inserts-are : inserts o calls ≡ inserted
-  pub removes-are : removes o calls ≡ removed
+  pub turns-are : length (trace (opened o) calls) ≡ turns
+  pub changes-are : changesIn (trace (opened o) calls) ≡ changed
+  pub lost-are : lostSwaps (trace (opened o) calls) ≡ lost
+  pub inserts-are : inserts (opened o) calls ≡ inserted
+  pub removes-are : removes (opened o) calls ≡ removed
 
 -- §10.6: 34 turns, 6 changes and 1 lost swap, with two inserts and two removes: at most 6 could be lost
 pub sleeper-totals : Totals twoWorkers sleeper 34 6 1 2 2
@@ -218,10 +218,10 @@ sleeper-words = refl
 pub record Repeats : Type 0 where
   pub won : SomeTurn Claims repeatedTrace
   pub by : won .turn .worker ≡ A
-  pub before : won .older ≡ trace threeWorkers wordRepeats
+  pub before : won .older ≡ trace (opened threeWorkers) wordRepeats
   -- version 1; marks 2, 1, 0
-  pub read : recordOf (state threeWorkers wordRepeats) A .word ≡ 1108101562369
-  pub again : markWordAt (state threeWorkers wordRepeats) 0 ≡ 1108101562369
+  pub read : recordOf (state (opened threeWorkers) wordRepeats) A .word ≡ 1108101562369
+  pub again : markWordAt (state (opened threeWorkers) wordRepeats) 0 ≡ 1108101562369
   pub moment : HasMoment (won .older) (won .turn)
   pub reading : ReadsWhole (moment .moment)
   pub freed : Some (λ e. AnothersIn (won .turn) e × IsTurn Frees e) (moment .newer)
@@ -232,7 +232,7 @@ abbrev starting : State
 starting =
     record {
       board = 1108101562369 ∷ 7 ∷ 7 ∷ 0 ∷ 1 ∷ 2 ∷ 0 ∷ 0 ∷ [];
-      floor = record { workers = 3; buckets = 1; last = 3 };
+      floor = record { workers = 3; buckets = 1; last = 3; version = 0 };
       records =
           record { kind = 2; place = 1; key = 8; ticket = 3; slot = 0; word = 0; held = 3; seen = 0; asleep = 0 }
           ∷ record { kind = 2; place = 10; key = 7; ticket = 1; slot = 1; word = 1108101562369; held = 0; seen = 2; asleep = 0 }
@@ -249,18 +249,18 @@ abbrev left : State
 left = stateFrom starting sinceReading
 
 -- it is where the calls before lead: they are computed once, and what comes after from there
-starting-is : state threeWorkers beforeReading ≡ starting
+starting-is : state (opened threeWorkers) beforeReading ≡ starting
 unfolding computed
 starting-is = refl
 
-left-is : state threeWorkers wordRepeats ≡ left
+left-is : state (opened threeWorkers) wordRepeats ≡ left
 left-is = stateFrom-append (opened threeWorkers) beforeReading sinceReading ∙ ap (λ (s : State). stateFrom s sinceReading) starting-is
 
-since-is : trace threeWorkers beforeReading ++ since ≡ trace threeWorkers wordRepeats
+since-is : trace (opened threeWorkers) beforeReading ++ since ≡ trace (opened threeWorkers) wordRepeats
 since-is =
     sym
     (traceFrom-append (opened threeWorkers) beforeReading sinceReading
-    ∙ ap (λ (s : State). trace threeWorkers beforeReading ++ traceFrom s sinceReading) starting-is)
+    ∙ ap (λ (s : State). trace (opened threeWorkers) beforeReading ++ traceFrom s sinceReading) starting-is)
 
 -- A's swap
 abbrev swap : Turn
@@ -271,7 +271,7 @@ unfolding computed
 swap-is = refl
 
 -- the trace is what was done before, and then the swap
-swap-last : repeatedTrace ≡ (trace threeWorkers beforeReading ++ since) ++ (acted swap ∷ [])
+swap-last : repeatedTrace ≡ (trace (opened threeWorkers) beforeReading ++ since) ++ (acted swap ∷ [])
 swap-last =
     traceFrom-append (opened threeWorkers) wordRepeats (turnsOf A 1 ∷ [])
     ∙ ap₂ (λ (es ds : List Entry). es ++ ds) (sym since-is) (ap (λ (s : State). traceFrom s (turnsOf A 1 ∷ [])) left-is ∙ swap-is)
@@ -283,12 +283,12 @@ word-repeats =
     let m : HasMoment since swap =
     moment-found swap since 0 (record { own = refl; sees = inl refl; latest = refl; bucket = refl; first = refl; rest = refl }) in
     record {
-      won = record { older = trace threeWorkers beforeReading ++ since; turn = swap; newer = []; cut = swap-last; holds = (refl, refl) };
+      won = record { older = trace (opened threeWorkers) beforeReading ++ since; turn = swap; newer = []; cut = swap-last; holds = (refl, refl) };
       by = refl;
       before = since-is;
       read = ap (λ (s : State). recordOf s A .word) left-is;
       again = ap (λ (s : State). markWordAt s 0) left-is;
-      moment = moment-later swap (trace threeWorkers beforeReading) m;
+      moment = moment-later swap (trace (opened threeWorkers) beforeReading) m;
       reading = refl;
       freed = found (λ e. AnothersIn swap e × IsTurn Frees e) (m .newer) 7 (((λ e. omega arith), refl), (refl, refl));
       claimed = found (λ e. AnothersIn swap e × IsTurn Claims e) (m .newer) 16 (((λ e. omega arith), refl), (refl, refl));
@@ -299,15 +299,15 @@ word-repeats =
 -- worker 0 claims a slot and is retired, and worker 1 claims that slot again
 pub record ClaimedAgain : Type 0 where
   -- what worker 0's commit would have expected: version 0, mark 2
-  pub expected : Places.filled (recordOf (state twoWorkers (take 2 retiredHolder)) 0) ≡ 8589934592
+  pub expected : Places.filled (recordOf (state (opened twoWorkers) (take 2 retiredHolder)) 0) ≡ 8589934592
   -- that word stands there when worker 0 is retired
-  pub before : markWordAt (state twoWorkers (take 2 retiredHolder)) 0 ≡ 8589934592
+  pub before : markWordAt (state (opened twoWorkers) (take 2 retiredHolder)) 0 ≡ 8589934592
   -- the retiring leaves version 1 and no mark
-  pub left : markWordAt (state twoWorkers retiredHolder) 0 ≡ 1
+  pub left : markWordAt (state (opened twoWorkers) retiredHolder) 0 ≡ 1
   -- and then the same slot is claimed: version 1, mark 2
-  pub again : markWordAt (state twoWorkers claimedAgain) 0 ≡ 8589934593
+  pub again : markWordAt (state (opened twoWorkers) claimedAgain) 0 ≡ 8589934593
   -- by worker 1, which has had its eight turns
-  pub held : recordOf (state twoWorkers claimedAgain) 1 .held ≡ 0
+  pub held : recordOf (state (opened twoWorkers) claimedAgain) 1 .held ≡ 0
 
 -- §19.5: the same slot is claimed again, and the word is another
 pub claimed-again : ClaimedAgain

@@ -19,7 +19,7 @@ use Rattle.engine.specs.Calls.{blank, recordIn}
 use Rattle.engine.proofs.Sizes.{right-listed}
 use Rattle.history.specs.Trace.{Entry, retired, total}
 use Rattle.history.specs.Counts.{isChange}
-use Rattle.history.specs.History.{State, Opening, Call, workersOf, opened, recordOf, retireBy, retiredAs, after, traceFrom, state, trace}
+use Rattle.history.specs.History.{State, Call, workersOf, bucketsOf, recordOf, retireBy, retiredAs, after, traceFrom, state, trace}
 use Rattle.history.specs.History as History
 use Rattle.history.specs.Cells.{cellsAt, markWordAt, Holds}
 use Rattle.history.specs.HowLong.{IsIdle}
@@ -30,7 +30,7 @@ use Rattle.history.proofs.Retiring as Going
 use Rattle.history.proofs.Steps.{Retires, done-retires}
 use Rattle.history.proofs.Cells.{holds-busy, by-word-left, retire-empties, retire-spares}
 use Rattle.history.proofs.Histories.{traceFrom-append}
-use Rattle.history.proofs.Opened.{opened-right}
+use Rattle.history.proofs.Ready.{Ready, ready-right}
 use Rattle.history.proofs.Beginning.{history-good}
 use Rattle.history.proofs.SameSizes.{state-workers, state-buckets}
 use Rattle.history.proofs.Unbroken.{state-unbroken}
@@ -98,13 +98,13 @@ holds-within records i holds = by (decLe (length records) i)
 
 -- ---- histories
 
-module _ (o : Opening) (calls : List Call) where
+module _ {first : State} (ready : Ready first) (calls : List Call) where
   abbrev s : State
-  s = state o calls
+  s = state first calls
 
-  module _ (i : ℕ) (under : i < workersOf o) (busy : IsIdle s i → ⊥) where
+  module _ (i : ℕ) (under : i < workersOf first) (busy : IsIdle s i → ⊥) where
     unrefused : Going.number s i ≡ 0
-    unrefused = busy-retires s (state-unbroken o calls) i (omega (arith, under, state-workers o calls)) busy
+    unrefused = busy-retires s (state-unbroken ready calls) i (omega (arith, under, state-workers first calls)) busy
 
     retires : Retires s (Going.entry s i) (retiredAs s i (Going.done s i))
     retires = done-retires s i unrefused
@@ -133,28 +133,28 @@ module _ (o : Opening) (calls : List Call) where
     abbrev left : Entry
     left = retired (Going.entry s i)
 
-    there : i < workersOf o
-    there = omega (arith, holds-within (map awake (s .records)) i holds, length-map (s .records) awake, right-listed _ _ _ (state-unbroken o calls .sized), state-workers o calls)
+    there : i < workersOf first
+    there = omega (arith, holds-within (map awake (s .records)) i holds, length-map (s .records) awake, right-listed _ _ _ (state-unbroken ready calls .sized), state-workers first calls)
 
     busy : IsIdle s i → ⊥
     busy rests = holds-busy _ holds (idle-up s i rests)
 
-    trace-is : trace o then ≡ trace o calls ++ (left ∷ since)
+    trace-is : trace first then ≡ trace first calls ++ (left ∷ since)
     unfolding traceFrom
     trace-is =
-        traceFrom-append (opened o) calls (History.retire i ∷ later)
-        ∙ ap (λ (es : List Entry). trace o calls ++ (es ++ since)) (entry-is i there busy)
+        traceFrom-append first calls (History.retire i ∷ later)
+        ∙ ap (λ (es : List Entry). trace first calls ++ (es ++ since)) (entry-is i there busy)
 
     -- a count over all that was done, cut at the retiring
-    counted : (f : Entry → ℕ) → total f (onto (trace o then) []) ≡ total f (onto (trace o calls) []) + (f left + total f since)
+    counted : (f : Entry → ℕ) → total f (onto (trace first then) []) ≡ total f (onto (trace first calls) []) + (f left + total f since)
     unfolding total
     counted f =
         omega (
           arith,
-          total-onto f (trace o then) [],
-          total-onto f (trace o calls) [],
+          total-onto f (trace first then) [],
+          total-onto f (trace first calls) [],
           ap (total f) trace-is,
-          total-append f (trace o calls) (left ∷ since),
+          total-append f (trace first calls) (left ∷ since),
         )
 
     one : bumpOf left ≡ 1
@@ -162,14 +162,14 @@ module _ (o : Opening) (calls : List Call) where
 
     -- The version of the bucket is as much further than the holder's word as it was when the holder was retired, one more, and what moved it
     -- since: together no more than was ever moved, and so less than 2^32.
-    further : version (markWordAt (state o then) bucket) ≡ version (holder .word) → ⊥
+    further : version (markWordAt (state first then) bucket) ≡ version (holder .word) → ⊥
     further same =
-        let was = history-good o calls in
-        let now = history-good o then in
-        let few : bucket < o .plan .buckets =
-        rw (state-buckets o calls) (mod-lt (holder .key) (opened-right o .some-bucket)) in
+        let was = history-good ready calls in
+        let now = history-good ready then in
+        let few : bucket < bucketsOf first =
+        rw (state-buckets first calls) (mod-lt (holder .key) (ready-right ready .some-bucket)) in
         let behind = was .behind i holds in
-        let home-is = ap (λ (k : ℕ). version (markWordAt s (holder .key % k))) (state-buckets o calls) in
+        let home-is = ap (λ (k : ℕ). version (markWordAt s (holder .key % k))) (state-buckets first calls) in
         omega (
           arith,
           same,
@@ -189,7 +189,7 @@ module _ (o : Opening) (calls : List Call) where
         )
 
   -- §19: retirings on an opened board
-  pub retirings : Retirings o calls
+  pub retirings : Retirings first calls
   retirings =
       record {
         accepted = λ i under busy. rw (done-is i under busy);

@@ -24,7 +24,7 @@ use Rattle.engine.proofs.Tallies.{losses-lost, losses-other, changes-change, ch
 use Rattle.history.specs.Trace.{Turn, Entry, acted, retired, total}
 use Rattle.history.specs.Reports.{lastReport}
 use Rattle.history.specs.Counts.{isLost, isChange, turnsIn, lostSwaps, changesIn, fullRounds, countsOf}
-use Rattle.history.specs.History.{State, Opening, Call, turn, run, opened, seatOf, listedOf, turnBy, ranBy, runOf, turnedAs, ranAs, after}
+use Rattle.history.specs.History.{State, Call, turn, run, seatOf, listedOf, turnBy, ranBy, runOf, turnedAs, ranAs, after}
 use Rattle.history.specs.History.{entryOf, andThen, turnEntries, entries, stateFrom, traceFrom, state, trace}
 use Rattle.history.proofs.Counts.{one-is}
 use Rattle.history.proofs.Histories.{stateFrom-append, traceFrom-append}
@@ -229,15 +229,15 @@ module _ (s : State) (turns : List ℕ) (later : List Call) where
 
 -- a history with a run in it is one with its turns instead, called one by one, as many as the run reports as done
 pub runs-are-turns :
-    (o : Opening) (earlier : List Call) (turns : List ℕ) (later : List Call)
-    → let turnsDone = map turn (take (runOf (state o earlier) turns .handed .totals .turns) turns) in
-    (state o (earlier ++ (run turns ∷ later)) ≡ state o (earlier ++ (turnsDone ++ later)))
-    × (trace o (earlier ++ (run turns ∷ later)) ≡ trace o (earlier ++ (turnsDone ++ later)))
-runs-are-turns o earlier turns later = (
-  stateFrom-append (opened o) earlier _
-      ∙ run-then-state (state o earlier) turns later
-      ∙ sym (stateFrom-append (opened o) earlier _),
-  traceFrom-append (opened o) earlier _
-      ∙ ap (λ (es : List Entry). trace o earlier ++ es) (run-then-trace (state o earlier) turns later)
-      ∙ sym (traceFrom-append (opened o) earlier _),
+    (first : State) (earlier : List Call) (turns : List ℕ) (later : List Call)
+    → let turnsDone = map turn (take (runOf (state first earlier) turns .handed .totals .turns) turns) in
+    (state first (earlier ++ (run turns ∷ later)) ≡ state first (earlier ++ (turnsDone ++ later)))
+    × (trace first (earlier ++ (run turns ∷ later)) ≡ trace first (earlier ++ (turnsDone ++ later)))
+runs-are-turns first earlier turns later = (
+  stateFrom-append first earlier _
+      ∙ run-then-state (state first earlier) turns later
+      ∙ sym (stateFrom-append first earlier _),
+  traceFrom-append first earlier _
+      ∙ ap (λ (es : List Entry). trace first earlier ++ es) (run-then-trace (state first earlier) turns later)
+      ∙ sym (traceFrom-append first earlier _),
 )

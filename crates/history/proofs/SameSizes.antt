@@ -1,8 +1,8 @@
--- No call changes the numbers of workers and buckets: they stay the opening's. Assumes nothing.
+-- No call changes the numbers of workers and buckets, nor the version that a board was opened at: they stay as at first. Assumes nothing.
 use Prim.Native.Nat.{ℕ}
 use mathlib.Core.Bool.{Bool}
 use mathlib.Core.List.{List, [], _∷_}
-use mathlib.Core.Path.{_≡_, refl, ap, _∙_}
+use mathlib.Core.Path.{_≡_, refl, _∙_}
 use lib.Dec.{eqb}
 use lib.ListN.{length}
 use Rattle.mark.proofs.Choices.{by-cases}
@@ -10,10 +10,9 @@ use Rattle.turn.specs.declared.Worker.{Worker}
 use Rattle.engine.specs.declared.Floor.{Floor}
 use Rattle.engine.specs.declared.Started.{Started}
 use Rattle.engine.specs.Refusals.{startNumber}
-use Rattle.engine.specs.Calls.{planned, spending, startCall}
-use Rattle.history.specs.History.{State, Opening, Call, look, insert, remove, turn, retire, run, show, count, orders, askTotal, askNext, opened, listedOf, seatOf}
-use Rattle.history.specs.History.{after, stateFrom, state}
-use Rattle.history.proofs.Opened.{opened-is}
+use Rattle.engine.specs.Calls.{spending, startCall}
+use Rattle.history.specs.History.{State, Call, look, insert, remove, turn, retire, run, show, count, orders, askTotal, askNext, listedOf, seatOf}
+use Rattle.history.specs.History.{workersOf, bucketsOf, after, stateFrom, state}
 
 -- a number of the floor that is not the last ticket
 module _ (size : Floor → ℕ) (other : (f : Floor) (t : ℕ) → size (spending f t) ≡ size f) where
@@ -44,18 +43,19 @@ module _ (size : Floor → ℕ) (other : (f : Floor) (t : ℕ) → size (spendin
   calls-size s [] = refl
   calls-size s (c ∷ calls) = calls-size (after s c) calls ∙ call-size s c
 
-  state-size : (o : Opening) (calls : List Call) → size (state o calls .floor) ≡ size (planned (o .plan))
-  state-size o calls = calls-size (opened o) calls ∙ ap (λ (s : State). size (s .floor)) (opened-is o)
-
 -- a call leaves the number of buckets
 pub call-buckets : (s : State) (c : Call) → after s c .floor .buckets ≡ s .floor .buckets
 call-buckets = call-size (λ f. f .buckets) (λ f t. refl)
 
-module _ (o : Opening) (calls : List Call) where
-  -- there are always as many workers as the opening's plan has
-  pub state-workers : state o calls .floor .workers ≡ o .plan .workers
-  state-workers = state-size (λ f. f .workers) (λ f t. refl) o calls
+module _ (first : State) (calls : List Call) where
+  -- there are always as many workers as at first
+  pub state-workers : workersOf (state first calls) ≡ workersOf first
+  state-workers = calls-size (λ f. f .workers) (λ f t. refl) first calls
 
-  -- there are always as many buckets as the opening's plan has
-  pub state-buckets : state o calls .floor .buckets ≡ o .plan .buckets
-  state-buckets = state-size (λ f. f .buckets) (λ f t. refl) o calls
+  -- there are always as many buckets as at first
+  pub state-buckets : bucketsOf (state first calls) ≡ bucketsOf first
+  state-buckets = calls-size (λ f. f .buckets) (λ f t. refl) first calls
+
+  -- and the version stays the one at first
+  pub state-version : state first calls .floor .version ≡ first .floor .version
+  state-version = calls-size (λ f. f .version) (λ f t. refl) first calls

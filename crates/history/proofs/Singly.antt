@@ -4,7 +4,7 @@ use mathlib.Core.List.{List, [], _∷_, _++_, map, append-nil}
 use mathlib.Core.Path.{_≡_, refl, sym, ap, ap₂, _∙_}
 use lib.ListN.{take}
 use Rattle.history.specs.Trace.{Entry}
-use Rattle.history.specs.History.{State, Opening, Call, look, insert, remove, turn, retire, run, show, count, orders, askTotal, askNext, opened, runOf, after}
+use Rattle.history.specs.History.{State, Call, look, insert, remove, turn, retire, run, show, count, orders, askTotal, askNext, runOf, after}
 use Rattle.history.specs.History.{entries, stateFrom, traceFrom, state, trace}
 use Rattle.history.specs.Singly.{single, singlyFrom, singly, NoRuns}
 use Rattle.history.proofs.Histories.{stateFrom-append, traceFrom-append}
@@ -78,15 +78,15 @@ unfolding singlyFrom
 from-no-runs s [] = tt
 from-no-runs s (c ∷ calls) = no-runs-append (single s c) (singlyFrom (after s c) calls) (comes s c .no-run) (from-no-runs (after s c) calls)
 
-module _ (o : Opening) (calls : List Call) where
+module _ (first : State) (calls : List Call) where
   -- without its runs a history leaves the same state
-  pub singly-state : state o (singly o calls) ≡ state o calls
-  singly-state = from-state (opened o) calls
+  pub singly-state : state first (singly first calls) ≡ state first calls
+  singly-state = from-state first calls
 
   -- without its runs it has the same trace
-  pub singly-trace : trace o (singly o calls) ≡ trace o calls
-  singly-trace = from-trace (opened o) calls
+  pub singly-trace : trace first (singly first calls) ≡ trace first calls
+  singly-trace = from-trace first calls
 
   -- and it has none
-  pub singly-no-runs : NoRuns (singly o calls)
-  singly-no-runs = from-no-runs (opened o) calls
+  pub singly-no-runs : NoRuns (singly first calls)
+  singly-no-runs = from-no-runs first calls

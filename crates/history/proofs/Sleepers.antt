@@ -24,7 +24,7 @@ use Rattle.engine.specs.Calls.{blank, recordIn, spending, startCall}
 use Rattle.engine.proofs.Sleeping.{own-after, other-after}
 use Rattle.history.specs.Trace.{Turn, Retiring, Entry, acted, retired, who, By, None, Continues, total}
 use Rattle.history.specs.Counts.{isTurn, oneIf, turnsIn}
-use Rattle.history.specs.History.{State, Opening, Call, look, insert, remove, turn, retire, run, show, count, orders, askTotal, askNext, opened, listedOf, seatOf, runOf}
+use Rattle.history.specs.History.{State, Call, look, insert, remove, turn, retire, run, show, count, orders, askTotal, askNext, listedOf, seatOf, runOf}
 use Rattle.history.specs.History.{startedAs, after, entries, stateFrom, traceFrom, state}
 use Rattle.history.specs.Asleep.{sleptThrough, startedOn, startsOn, asleepFrom, Sleeps}
 use Rattle.history.proofs.Counts.{total-append}
@@ -32,7 +32,7 @@ use Rattle.history.proofs.Cuts.{no-cut}
 use Rattle.history.proofs.Later.{CutSince, newest, older, cut-since, some-front, some-last}
 use Rattle.history.proofs.Histories.{stateFrom-append}
 use Rattle.history.proofs.Listed.{up-is, listed-within}
-use Rattle.history.proofs.Beginning.{rests}
+use Rattle.history.proofs.Ready.{Ready, rests}
 use Rattle.history.proofs.Starting.{not-refused}
 use Rattle.history.proofs.Steps.{Begins, Turns, Retires, stepOf, Lasts, by-turn, by-retiring, calls-last}
 use Rattle.history.proofs.Account.{goes-busy}
@@ -322,30 +322,30 @@ starts-asleep i s (askNext from) = not-both false refl
 
 -- ---- histories
 
-module _ (o : Opening) (calls : List Call) where
-  -- just after the opening nobody is at a call
-  opened-if : (i : ℕ) → If (opened o) i 0
+module _ {first : State} (ready : Ready first) (calls : List Call) where
+  -- at first nobody is at a call
+  ready-if : (i : ℕ) → If first i 0
   unfolding mayStand
-  opened-if i sound =
-      let none : listedOf (opened o) i .kind ≡ 0 = ap (λ (w : Worker). w .kind) (sym (up-is (opened o) i)) ∙ rests o i .kind in
-      not-both false refl (subst (λ (k : ℕ). mayStand k (listedOf (opened o) i .place) ≡ true) none (sound .stands))
+  ready-if i sound =
+      let none : listedOf first i .kind ≡ 0 = ap (λ (w : Worker). w .kind) (sym (up-is first i)) ∙ rests ready i .kind in
+      not-both false refl (subst (λ (k : ℕ). mayStand k (listedOf first i .place) ≡ true) none (sound .stands))
 
   -- calls cut at one of them
-  cut-state : (earlier : List Call) (c : Call) (later : List Call) → calls ≡ earlier ++ (c ∷ later) → state o calls ≡ stateFrom (after (state o earlier) c) later
+  cut-state : (earlier : List Call) (c : Call) (later : List Call) → calls ≡ earlier ++ (c ∷ later) → state first calls ≡ stateFrom (after (state first earlier) c) later
   unfolding stateFrom
-  cut-state earlier c later cut = ap (state o) cut ∙ stateFrom-append (opened o) earlier (c ∷ later)
+  cut-state earlier c later cut = ap (state first) cut ∙ stateFrom-append first earlier (c ∷ later)
 
-  -- §20.5: after every opening and every list of calls
-  pub sleeps : Sleeps o calls
+  -- §20.5: wherever a stretch can begin, after every list of calls
+  pub sleeps : Sleeps first calls
   sleeps =
       record {
         counted = λ i under some.
-            let kept = state-unbroken o calls .records i (omega (arith, under, state-workers o calls)) in
-            calls-if i 0 (opened o) calls (opened-if i) (not-broken _ kept (not-idle _ some));
+            let kept = state-unbroken ready calls .records i (omega (arith, under, state-workers first calls)) in
+            calls-if i 0 first calls (ready-if i) (not-broken _ kept (not-idle _ some));
         since-start = λ earlier c later i cut on none.
-            let then = after (state o earlier) c in
+            let then = after (state first earlier) c in
             let all : 0 + turnsIn (traceFrom then later) ≡ turnsIn (traceFrom then later) = omega arith in
-            rw (cut-state earlier c later cut) (asleep-as all (calls-count i 0 then later (starts-asleep i (state o earlier) c on) none) .for);
+            rw (cut-state earlier c later cut) (asleep-as all (calls-count i 0 then later (starts-asleep i (state first earlier) c on) none) .for);
         since-turn = λ before e later cut goes none.
-            calls-last SinceTurn since-turn-lasts calls (opened o) [] [] (λ b d l c. absurd (no-cut b (acted d) l c)) before e later cut goes none .for;
+            calls-last SinceTurn since-turn-lasts calls first [] [] (λ b d l c. absurd (no-cut b (acted d) l c)) before e later cut goes none .for;
       }

@@ -1,5 +1,5 @@
--- What is known of tickets on an opened board: those that were accepted rise up to the last one, each insert under way has one of them
--- for itself, and no turn has stored it while the insert waits to. Assumes nothing.
+-- What is known of tickets on an opened board: those that were accepted rise from above the last one at first up to the last one, each insert
+-- under way has one of them for itself, and no turn has stored it while the insert waits to. Assumes nothing.
 use Prim.Native.Nat.{ℕ, _≤_, _<_}
 use mathlib.Core.List.{List, [], _∷_, _++_, append-nil}
 use mathlib.Core.Logic.{_⊎_, inl, inr}
@@ -28,9 +28,10 @@ Inserts w = w .kind ≡ insertKind
 abbrev Differ : Worker → Worker → Type 0
 Differ w u = Inserts w → Inserts u → w .ticket ≡ u .ticket → ⊥
 
--- a state, the entries before it, and the tickets accepted before it
-pub record Spent (s : State) (past : List Entry) (ts : List ℕ) : Type 0 where
-  pub rising : Rising 0 ts
+-- the last ticket at first, a state, the entries before it, and the tickets accepted before it
+pub record Spent (low : ℕ) (s : State) (past : List Entry) (ts : List ℕ) : Type 0 where
+  pub least : low ≤ s .floor .last
+  pub rising : Rising low ts
   pub most : (t : ℕ) → OneOf ts t → t ≤ s .floor .last
   pub accepted : (i : ℕ) → Inserts (recordOf s i) → OneOf ts (recordOf s i .ticket)
   pub differ : (i j : ℕ) → (i ≡ j → ⊥) → Differ (recordOf s i) (recordOf s j)
@@ -64,26 +65,29 @@ module _ (s t : State) (i : ℕ) (v : Worker) (records : view t .records ≡ set
 -- ---- a start
 
 -- the tickets and the last one after a start of v, from those before it
-record Grows (old : ℕ) (v : Worker) (ts us : List ℕ) (new : ℕ) : Type 0 where
-  rising : Rising 0 us
+record Grows (low old : ℕ) (v : Worker) (ts us : List ℕ) (new : ℕ) : Type 0 where
+  least : low ≤ new
+  rising : Rising low us
   most : (t : ℕ) → OneOf us t → t ≤ new
   more : (t : ℕ) → OneOf ts t → OneOf us t
   own : Inserts v → OneOf us (v .ticket)
   over : Inserts v → old < v .ticket
 
 grows :
-    (old new : ℕ) (v : Worker) (ts spent : List ℕ)
-    → Rising 0 ts
+    (low old new : ℕ) (v : Worker) (ts spent : List ℕ)
+    → low ≤ old
+    → Rising low ts
     → ((t : ℕ) → OneOf ts t → t ≤ old)
     → Spends old v spent new
-    → Grows old v ts (ts ++ spent) new
-grows old new v ts spent rising most (unticketed other none same) =
+    → Grows low old v ts (ts ++ spent) new
+grows low old new v ts spent least rising most (unticketed other none same) =
     rw (none, append-nil ts, same)
-    (record { rising = rising; most = most; more = λ t there. there; own = λ is. absurd (other is); over = λ is. absurd (other is) })
-grows old new v ts spent rising most (ticketed over one same) =
+    (record { least = least; rising = rising; most = most; more = λ t there. there; own = λ is. absurd (other is); over = λ is. absurd (other is) })
+grows low old new v ts spent least rising most (ticketed over one same) =
     rw (one, same)
     (record {
-      rising = rising-last 0 ts (v .ticket) (omega arith) (λ t there. let under = most t there in omega arith) rising;
+      least = omega arith;
+      rising = rising-last low ts (v .ticket) (omega arith) (λ t there. let under = most t there in omega arith) rising;
       most = λ t there. by t (in-or-last t ts (v .ticket) there);
       more = λ t there. in-front t ts (v .ticket ∷ []) there;
       own = λ is. in-last (v .ticket) ts;
@@ -94,22 +98,23 @@ grows old new v ts spent rising most (ticketed over one same) =
     by t (inl there) = let under = most t there in omega arith
     by t (inr is) = omega arith
 
-module _ {s t : State} {v : Worker} {spent : List ℕ} (past : List Entry) (ts : List ℕ) (start : Begins s v spent t) (old : Spent s past ts) where
+module _ {low : ℕ} {s t : State} {v : Worker} {spent : List ℕ} (past : List Entry) (ts : List ℕ) (start : Begins s v spent t) (old : Spent low s past ts) where
   abbrev us : List ℕ
   us = ts ++ spent
 
-  grown : Grows (s .floor .last) v ts us (t .floor .last)
-  grown = grows (s .floor .last) (t .floor .last) v ts spent (old .rising) (old .most) (start .spends)
+  grown : Grows low (s .floor .last) v ts us (t .floor .last)
+  grown = grows low (s .floor .last) (t .floor .last) v ts spent (old .least) (old .rising) (old .most) (start .spends)
 
   -- its ticket is none of those before
   fresh : Inserts v → OneOf ts (v .ticket) → ⊥
   fresh insert there = let most = old .most (v .ticket) there in omega (arith, grown .over insert)
 
-  start-spent : Spent t past us
+  start-spent : Spent low t past us
   start-spent =
       let i = start .starts .who in
       let every = each s t i v (start .starts .records) (start .starts .within) in
       record {
+        least = grown .least;
         rising = grown .rising;
         most = grown .most;
         accepted =
@@ -130,7 +135,7 @@ module _ {s t : State} {v : Worker} {spent : List ℕ} (past : List Entry) (ts :
 
 -- ---- a turn
 
-module _ {s t : State} {e : Turn} (past : List Entry) (ts : List ℕ) (act : Turns s e t) (old : Spent s past ts) where
+module _ {low : ℕ} {s t : State} {e : Turn} (past : List Entry) (ts : List ℕ) (act : Turns s e t) (old : Spent low s past ts) where
   abbrev i : ℕ
   i = e .worker
 
@@ -189,10 +194,11 @@ module _ {s t : State} {e : Turn} (past : List Entry) (ts : List ℕ) (act : Tur
       (subst (λ (x : Entry). None (IsTurn (StoresTicket (wasOf x .ticket))) past) (sym at) (waits-was (stores-waits (subst (IsTurn Stores) at stores))))
   once-then before d (sooner rest cut) stores = old .once before d rest cut stores
 
-  turn-spent : Spent t now ts
+  turn-spent : Spent low t now ts
   turn-spent =
       let every = each s t i v (act .acts .records) (act .acts .within) in
       record {
+        least = rw (act .acts .last) (old .least);
         rising = old .rising;
         most = rw (act .acts .last) (old .most);
         accepted =
@@ -208,11 +214,12 @@ module _ {s t : State} {e : Turn} (past : List Entry) (ts : List ℕ) (act : Tur
 
 -- ---- a retiring
 
-retire-spent : {s t : State} {r : Retiring} (past : List Entry) (ts : List ℕ) → Retires s r t → Spent s past ts → Spent t (past ++ (retired r ∷ [])) ts
-retire-spent {s} {t} {r} past ts act old =
+retire-spent : {low : ℕ} {s t : State} {r : Retiring} (past : List Entry) (ts : List ℕ) → Retires s r t → Spent low s past ts → Spent low t (past ++ (retired r ∷ [])) ts
+retire-spent {low} {s} {t} {r} past ts act old =
     let i = r .worker in
     let every = each s t i idle (act .acts .records) (act .acts .within) in
     record {
+      least = rw (act .acts .last) (old .least);
       rising = old .rising;
       most = rw (act .acts .last) (old .most);
       accepted = every (λ (j : ℕ) (x : Worker). Inserts x → OneOf ts (x .ticket)) (λ insert. absurd (omega arith)) (λ j other. old .accepted j);
@@ -235,5 +242,5 @@ retire-spent {s} {t} {r} past ts act old =
     once-then before d (sooner rest cut) stores = old .once before d rest cut stores
 
 -- every accepted start, every turn done and every retiring done keep what is known of tickets
-pub spent-lasts : Lasts Spent
+pub spent-lasts : {low : ℕ} → Lasts (Spent low)
 spent-lasts = record { begins = start-spent; turns = turn-spent; retires = retire-spent }

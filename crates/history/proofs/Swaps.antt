@@ -79,7 +79,7 @@ left-word (retired r) act is = tt
 
 -- ---- a swap and its moment
 
-module _ (workers n opened : ℕ) {s u : View} {es : List Entry} {k : ℕ} (walk : Walk n s es k u) (good : Good workers n opened s [] 0) where
+module _ (workers n : ℕ) (first : ℕ → ℕ) {s u : View} {es : List Entry} {k : ℕ} (walk : Walk n s es k u) (good : Good workers n first s [] 0) where
   module _ (at : AtMoment es) (swap : Swaps (at .turn)) where
     abbrev x : Turn
     x = at .moment
@@ -112,11 +112,11 @@ module _ (workers n opened : ℕ) {s u : View} {es : List Entry} {k : ℕ} (walk
     abbrev past : List Entry
     past = acted x ∷ onto (at .before) []
 
-    good-then : Good workers n opened then past (at-x .many + 0)
-    good-then = act-good workers n opened _ _ _ _ (at-x .act) _ _ (walk-good workers n opened (at-x .first) [] 0 good)
+    good-then : Good workers n first then past (at-x .many + 0)
+    good-then = act-good workers n first _ _ _ _ (at-x .act) _ _ (walk-good workers n first (at-x .first) [] 0 good)
 
-    good-now : Good workers n opened now (onto between past) (at-y .many + (at-x .many + 0))
-    good-now = walk-good workers n opened (at-y .first) past _ good-then
+    good-now : Good workers n first now (onto between past) (at-y .many + (at-x .many + 0))
+    good-now = walk-good workers n first (at-y .first) past _ good-then
 
     -- between its moment and its swap a worker keeps the word that it has in mind
     still : Still n then between now y
@@ -178,7 +178,7 @@ module _ (workers n opened : ℕ) {s u : View} {es : List Entry} {k : ℕ} (walk
               holds =
                   record {
                     another = ((λ own. at .is .latest (some-as _ _ _ last (own, inr (there .1))), there .0), there .1);
-                    differs = act-changes e (c .act) (walk-good workers n opened (c .first) past _ good-then .kept) (there .1);
+                    differs = act-changes e (c .act) (walk-good workers n first (c .first) past _ good-then .kept) (there .1);
                     left = left-word e (c .act) (ap (c .there .marks) (there .0) ∙ sym (walk-quiet b (c .rest) (last .holds .1)) ∙ sym (at-y .act .tells .before));
                     latest = none-differs b (c .rest) (last .holds .1);
                   };
@@ -201,7 +201,7 @@ module _ (workers n opened : ℕ) {s u : View} {es : List Entry} {k : ℕ} (walk
         let under : b < n = rw (at-y .act .bucket) (mod-lt (w .key) some) in
         let same : then .marks b ≡ now .marks b = sym expected ∙ at-y .act .tells .went .won won .1 in
         let told = good-then .tells b under in
-        let tells = subst (Tells opened b (onto between past)) (sym same) (good-now .tells b under) in
+        let tells = subst (Tells (first b) b (onto between past)) (sym same) (good-now .tells b under) in
         let bumps = total-onto (inBucket b bumpOf) between past in
         let commits = total-onto (inBucket b commitOf) between past in
         let closes = total-onto (inBucket b closeOf) between past in

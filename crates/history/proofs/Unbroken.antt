@@ -1,5 +1,5 @@
--- An opened board is unbroken and its index the full reading, and every call keeps it so, accepted or refused. Assumes nothing.
-use Prim.Native.Nat.{ℕ, _^_, _<_}
+-- Where a stretch can begin nothing is broken and the index is the full reading, and every call keeps it so, accepted or refused. Assumes nothing.
+use Prim.Native.Nat.{ℕ, _<_}
 use mathlib.Core.Bool.{Bool, false}
 use mathlib.Core.List.{List, [], _∷_}
 use mathlib.Core.Logic.{inl, inr}
@@ -7,27 +7,21 @@ use mathlib.Core.Path.{_≡_, refl, sym, subst, _∙_}
 use native.Mathlib.Decide.{ℕ-discrete}
 use native.Mathlib.Omega.{arith}
 use lib.Dec.{eqb}
-use lib.ListN.{length, set, length-set, length-replicate, getD-replicate}
+use lib.ListN.{length, set, length-set}
 use lib.Seq.{getD-set-same, getD-set-other}
 use borrow.Author.Tests.{eqb-true, eqb-false, leb-false}
-use Rattle.mark.specs.Word.{byte7, countMarks}
-use Rattle.mark.proofs.Choices.{by-cases, passes}
-use Rattle.mark.proofs.WellFormed.{well-formed}
+use Rattle.mark.proofs.Choices.{by-cases}
 use Rattle.turn.specs.declared.Worker.{Worker}
 use Rattle.turn.specs.Worker.{idle, lookFor, removeOf, broken}
-use Rattle.turn.specs.Bucket.{brokenBucket}
 use Rattle.turn.specs.Turn.{Answer, Refused, Done, Turned, After}
 use Rattle.turn.specs.declared.Retired.{Retired}
-use Rattle.turn.proofs.Sound.{whole-not-broken}
 use Rattle.turn.proofs.Asleep.{slept-broken}
 use Rattle.turn.proofs.Kept.{idle-kept, look-kept, insert-kept, remove-kept}
 use Rattle.engine.specs.declared.Floor.{Floor}
 use Rattle.engine.specs.declared.Started.{Started}
-use Rattle.engine.specs.Board.{emptyBucket, openedBoard}
-use Rattle.engine.specs.Refusals.{wrongSizes, openNumber, startNumber, turnNumber}
-use Rattle.engine.specs.Calls.{Ran, planned, startCall, turned, afterTurn, recordsLeft, retired, unbegun, blank, recordIn}
+use Rattle.engine.specs.Refusals.{wrongSizes, startNumber, turnNumber}
+use Rattle.engine.specs.Calls.{Ran, startCall, turned, afterTurn, recordsLeft, retired, unbegun, blank, recordIn}
 use Rattle.engine.proofs.Sizes.{right-sizes, right-listed}
-use Rattle.engine.proofs.Buckets.{length-opened}
 use Rattle.engine.proofs.Turns.{own}
 use Rattle.engine.proofs.Sleeping.{left-long, own-after, other-after}
 use Rattle.engine.proofs.Keeps.{Keeps, each-accepted, turn-accepted}
@@ -35,51 +29,17 @@ use Rattle.engine.proofs.Retiring.{retire-accepted, vacated-board-long, vacated
 use Rattle.hall.specs.Refusals.{hallEachNumber, hallRetireNumber, hallRunNumber}
 use Rattle.hall.specs.Calls.{hallTurn, indexLeft, hallRetire, retiredIndex, Indexed, indexed, hallGoOn, hallRunFrom, hallRun}
 use Rattle.hall.specs.Reading.{Reads}
-use Rattle.hall.proofs.Reading.{reads-nothing}
-use Rattle.hall.proofs.Plain.{open-none, each-none, turn-none, retire-none, hall-turn-keeps, hall-each-keeps}
+use Rattle.hall.proofs.Plain.{each-none, turn-none, retire-none, hall-turn-keeps, hall-each-keeps}
 use Rattle.hall.proofs.Kept.{reads-turned, reads-retired}
 use Rattle.hall.proofs.Same.{turn-same-number}
-use Rattle.history.specs.History.{State, Opening, Call, look, insert, remove, turn, retire, run, show, count, orders, askTotal, askNext, opened, listedOf, seatOf, turnBy, ranBy, runOf}
+use Rattle.history.specs.History.{State, Call, look, insert, remove, turn, retire, run, show, count, orders, askTotal, askNext, listedOf, seatOf, turnBy, ranBy, runOf}
 use Rattle.history.specs.History.{retireBy, startedAs, turnedAs, retiredAs, ranAs, after, stateFrom, state}
 use Rattle.history.specs.Numbers.{OneOf}
 use Rattle.history.specs.Unbroken.{Unbroken}
-use Rattle.history.proofs.Opened.{opened-is, opened-right, opened-bucket}
-use Rattle.history.proofs.Beginning.{no-mark}
+use Rattle.history.proofs.Ready.{Ready}
 use Rattle.history.proofs.Starting.{not-refused}
 use Rattle.history.proofs.Acting as Acting
 use Rattle.history.proofs.Unrefused.{each-index, each-numbers, run-numbers}
-
--- ---- the opening
-
--- an empty bucket at a version of 32 bits is not broken
-empty-unbroken : (v : ℕ) → v < 2 ^ 32 → brokenBucket (emptyBucket v) ≡ false
-unfolding byte7
-empty-unbroken v fits =
-    whole-not-broken (emptyBucket v)
-    (record { eight = refl; formed = well-formed v (λ i slot. omega (arith, no-mark v fits i)) (omega arith); spare = refl })
-
--- and nothing is valid in it
-nothing-valid : (v : ℕ) → v < 2 ^ 32 → countMarks 1 v ≡ 0
-unfolding countMarks
-nothing-valid v fits = rw (no-mark v fits 0, no-mark v fits 1, no-mark v fits 2)
-
--- an opening leaves nothing broken, whatever it was lent
-opened-unbroken : (o : Opening) → Unbroken (opened o)
-unfolding openNumber wrongSizes
-opened-unbroken o =
-    let n = length (o .lent .records) in
-    let sized : wrongSizes (planned (o .plan)) (o .lent .board) n ≡ false =
-    passes _ 0 0 (open-none (planned (o .plan)) (o .lent .board) (o .lent .index) n (o .accepted) .1) .0 in
-    let all = right-listed (planned (o .plan)) (o .lent .board) n sized in
-    rw (opened-is o)
-    (record {
-      sized = rw (length-replicate n idle, length-opened (o .plan .version) (o .plan .buckets)) (rw (opened-right o .words) at sized);
-      records = λ i under. rw (getD-replicate n i idle blank (omega (arith, all))) idle-kept;
-      buckets = λ b under. rw (opened-bucket (o .plan .buckets) (o .plan .version) b under) (empty-unbroken _ (o .version-fits));
-      reads =
-          reads-nothing (openedBoard (o .plan .buckets) (o .plan .version)) (o .plan .buckets) (opened-right o .buckets)
-          (λ b under. rw (opened-bucket (o .plan .buckets) (o .plan .version) b under) (nothing-valid _ (o .version-fits)));
-    })
 
 -- ---- one record more
 
@@ -288,5 +248,5 @@ calls-unbroken s [] ok = ok
 calls-unbroken s (c ∷ calls) ok = calls-unbroken (after s c) calls (after-unbroken s c ok)
 
 -- on an opened board nothing is ever broken, and the sizes stay right
-pub state-unbroken : (o : Opening) (calls : List Call) → Unbroken (state o calls)
-state-unbroken o calls = calls-unbroken (opened o) calls (opened-unbroken o)
+pub state-unbroken : {first : State} (ready : Ready first) (calls : List Call) → Unbroken (state first calls)
+state-unbroken {first} ready calls = calls-unbroken first calls (ready .unbroken)

@@ -1,6 +1,6 @@
 -- Where nothing is broken and the sizes are right, no call is refused by 1, 3, 7 or 11: which numbers of refusal are left, call by call.
 -- Assumes nothing.
-use Prim.Native.Nat.{ℕ, zero, suc, _≤_, _<_}
+use Prim.Native.Nat.{ℕ, _≤_, _<_}
 use mathlib.Core.Bool.{Bool, false, cond, not}
 use mathlib.Core.List.{List, [], _∷_}
 use mathlib.Core.Logic.{inl, inr}
@@ -17,7 +17,7 @@ use Rattle.turn.specs.Turn.{turnRefusal}
 use Rattle.turn.specs.Retire.{retireRefusal}
 use Rattle.turn.proofs.Kept.{not-idle, is-idle, idle-kept}
 use Rattle.engine.specs.declared.Floor.{Floor}
-use Rattle.engine.specs.Board.{bucketAt, anyBroken}
+use Rattle.engine.proofs.AnyUnder.{any-clear}
 use Rattle.engine.specs.Refusals.{wrongFloor, wrongSizes, noWorker, bucketFor}
 use Rattle.engine.specs.Refusals.{startNumber, eachNumber, turnNumber, retireNumber, runNumber, showNumber, countNumber}
 use Rattle.engine.proofs.Sizes.{both-fail, right-sizes, right-listed}
@@ -43,12 +43,6 @@ either-of ms t m n one other = by-cases (OneOf ms) t m n (λ is. one) other
 floor-fits : (f : Floor) (board : List ℕ) (listed : ℕ) → wrongSizes f board listed ≡ false → wrongFloor f board ≡ false
 unfolding wrongSizes wrongFloor
 floor-fits f board listed is = both-fail _ _ is .0
-
--- no bucket is broken, one after another
-none-broken : (board : List ℕ) (n : ℕ) → ((b : ℕ) → b < n → brokenBucket (bucketAt board b) ≡ false) → anyBroken board n ≡ false
-unfolding anyBroken
-none-broken board zero each = refl
-none-broken board (suc n) each = rw (none-broken board n (λ b under. each b (omega arith))) (each n (omega arith))
 
 module _ (s : State) (ok : Unbroken s) where
   -- the bucket of any lot is not broken
@@ -154,7 +148,7 @@ module _ (s : State) (ok : Unbroken s) where
   -- a count is never refused
   pub count-accepted : countNumber (s .floor) (s .board) ≡ 0
   unfolding countNumber
-  count-accepted = rw (floor-fits _ _ _ (ok .sized), none-broken (s .board) (s .floor .buckets) (ok .buckets))
+  count-accepted = rw (floor-fits _ _ _ (ok .sized), any-clear _ (s .floor .buckets) (ok .buckets))
 
   -- a question is never refused
   pub question-accepted : questionNumber (s .floor) (s .board) (s .index) ≡ 0

@@ -4,7 +4,7 @@ use mathlib.Core.List.{[], _∷_}
 use mathlib.Core.Path.{_≡_, refl}
 use lib.ListN.{take}
 use Rattle.history.specs.Trace.{IsTurn, Some}
-use Rattle.history.specs.History.{state}
+use Rattle.history.specs.History.{opened, state}
 use Rattle.history.specs.Trials.{sleeper}
 use Rattle.history.specs.Values.{valueAt, StoresTicket, tickets, ticketsFrom}
 use Rattle.history.proofs.Found.{found}
@@ -12,12 +12,12 @@ use Rattle.history.proofs.Reached.{twoWorkers, sleeperTrace, computed}
 
 -- tickets 1 and 2 are accepted and stored, and the value of one slot goes from 0 to 1 and to 2
 pub record Rewrites : Type 0 where
-  pub accepted : tickets twoWorkers sleeper ≡ 1 ∷ 2 ∷ []
+  pub accepted : tickets (opened twoWorkers) sleeper ≡ 1 ∷ 2 ∷ []
   pub stored : Some (IsTurn (StoresTicket 1)) sleeperTrace
   pub stored-next : Some (IsTurn (StoresTicket 2)) sleeperTrace
-  pub at-first : valueAt (state twoWorkers (take 1 sleeper)) 0 0 ≡ 0
-  pub between : valueAt (state twoWorkers (take 2 sleeper)) 0 0 ≡ 1
-  pub at-last : valueAt (state twoWorkers sleeper) 0 0 ≡ 2
+  pub at-first : valueAt (state (opened twoWorkers) (take 1 sleeper)) 0 0 ≡ 0
+  pub between : valueAt (state (opened twoWorkers) (take 2 sleeper)) 0 0 ≡ 1
+  pub at-last : valueAt (state (opened twoWorkers) sleeper) 0 0 ≡ 2
 
 -- the sleeper's floor has such a slot
 pub sleeper-rewrites : Rewrites

@@ -1,5 +1,5 @@
--- On an opened board the version of a bucket tells its commits and the retirings that gave a slot back, and the number of its valid marks the
--- commits less the closes. Assumes nothing.
+-- On an opened board the version of a bucket tells its commits and the retirings that gave a slot back, and the number of its valid marks
+-- those at first and the commits, less the closes. Assumes nothing.
 use Prim.Native.Nat.{ℕ, _+_, _%_, _^_}
 use mathlib.Core.List.{List, _∷_}
 use mathlib.Core.Path.{_≡_, refl, sym, subst, _∙_}
@@ -26,16 +26,16 @@ closesAt b past = total (inBucket b closeOf) past
 abbrev pub bumpsAt : ℕ → List Entry → ℕ
 bumpsAt b past = total (inBucket b bumpOf) past
 
--- what the mark word m of a bucket opened at version v tells of its entries
-pub record Tells (v b : ℕ) (past : List Entry) (m : ℕ) : Type 0 where
-  pub bumps : version m ≡ (v + bumpsAt b past) % 2 ^ 32
-  pub valid : countMarks 1 m + closesAt b past ≡ commitsAt b past
+-- what the mark word m of a bucket tells of its entries, where it was this one at first
+pub record Tells (first b : ℕ) (past : List Entry) (m : ℕ) : Type 0 where
+  pub bumps : version m ≡ (version first + bumpsAt b past) % 2 ^ 32
+  pub valid : countMarks 1 m + closesAt b past ≡ countMarks 1 first + commitsAt b past
 
-module _ (v n : ℕ) (s : View) (e : Entry) (w : Worker) (t : View) (kept : Kept n s) (act : Acts n s e w t) (past : List Entry) where
+module _ (first n : ℕ) (s : View) (e : Entry) (w : Worker) (t : View) (kept : Kept n s) (act : Acts n s e w t) (past : List Entry) where
   abbrev effect : Effect
   effect = act .effect
 
-  here-tells : Tells v (bucketIn e) past (s .marks (bucketIn e)) → Tells v (bucketIn e) (e ∷ past) (t .marks (bucketIn e))
+  here-tells : Tells first (bucketIn e) past (s .marks (bucketIn e)) → Tells first (bucketIn e) (e ∷ past) (t .marks (bucketIn e))
   unfolding total
   here-tells old =
       let b = bucketIn e in
@@ -48,7 +48,7 @@ module _ (v n : ℕ) (s : View) (e : Entry) (w : Worker) (t : View) (kept : Kept
         valid = rw (act .here) (omega (arith, valid, commits, closes, old .valid));
       }
 
-  there-tells : (b : ℕ) → (bucketIn e ≡ b → ⊥) → Tells v b past (s .marks b) → Tells v b (e ∷ past) (t .marks b)
+  there-tells : (b : ℕ) → (bucketIn e ≡ b → ⊥) → Tells first b past (s .marks b) → Tells first b (e ∷ past) (t .marks b)
   unfolding total
   there-tells b other old =
       let commits = out-of-bucket b commitOf e other in
@@ -59,9 +59,9 @@ module _ (v n : ℕ) (s : View) (e : Entry) (w : Worker) (t : View) (kept : Kept
       }
 
   -- a turn and a retiring keep it so
-  pub act-tells : (b : ℕ) → Tells v b past (s .marks b) → Tells v b (e ∷ past) (t .marks b)
+  pub act-tells : (b : ℕ) → Tells first b past (s .marks b) → Tells first b (e ∷ past) (t .marks b)
   act-tells b = by (ℕ-discrete (bucketIn e) b)
     where
-      by : Dec (bucketIn e ≡ b) → Tells v b past (s .marks b) → Tells v b (e ∷ past) (t .marks b)
-      by (yes is) = subst (λ (b : ℕ). Tells v b past (s .marks b) → Tells v b (e ∷ past) (t .marks b)) is here-tells
+      by : Dec (bucketIn e ≡ b) → Tells first b past (s .marks b) → Tells first b (e ∷ past) (t .marks b)
+      by (yes is) = subst (λ (b : ℕ). Tells first b past (s .marks b) → Tells first b (e ∷ past) (t .marks b)) is here-tells
       by (no other) = there-tells b other

@@ -2,21 +2,20 @@
 use Prim.Native.Nat.{ℕ, _+_, _*_}
 use mathlib.Core.Bool.{Bool, true, false, cond}
 use mathlib.Core.List.{List, [], _∷_, _++_, map}
-use mathlib.Core.Path.{_≡_, refl, sym, ap, subst, _∙_}
+use mathlib.Core.Path.{_≡_, refl, sym, subst, _∙_}
 use native.Mathlib.Omega.{arith}
 use lib.Dec.{eqb}
 use lib.ListN.{take}
 use Rattle.engine.specs.declared.Started.{Started}
 use Rattle.history.specs.Trace.{Entry}
-use Rattle.history.specs.History.{State, Opening, Call, look, insert, remove, turn, retire, run, show, count, orders, askTotal, askNext, opened, lookBy, insertBy, removeBy, runOf}
-use Rattle.history.specs.History.{after, entries, stateFrom, traceFrom, sumFrom, begun, isStart, state, trace, inserts, removes}
+use Rattle.history.specs.History.{State, Call, look, insert, remove, turn, retire, run, show, count, orders, askTotal, askNext, lookBy, insertBy, removeBy, runOf}
+use Rattle.history.specs.History.{after, entries, stateFrom, traceFrom, sumFrom, begun, isStart, bucketsOf, state, trace, inserts, removes}
 use Rattle.history.proofs.Runs.{run-state, run-trace}
 use Rattle.history.proofs.View.{View, Walk, stays, starts, acts}
 use Rattle.history.proofs.States.{view, recount}
 use Rattle.history.proofs.Starting.{look-fresh, insert-fresh, remove-fresh, start-walk}
 use Rattle.history.proofs.Acting.{turn-walk}
 use Rattle.history.proofs.Retiring.{retire-walk}
-use Rattle.history.proofs.Opened.{opened-is}
 use Rattle.history.proofs.SameSizes.{call-buckets}
 
 -- a walk after a walk is one, and their changes add up
@@ -91,6 +90,6 @@ module _ (n : ℕ) where
 
 -- and so is every history
 pub history-walk :
-    (o : Opening) (calls : List Call)
-    → Walk (o .plan .buckets) (view (opened o)) (trace o calls) (2 * inserts o calls + removes o calls) (view (state o calls))
-history-walk o calls = calls-walk (o .plan .buckets) (opened o) calls (ap (λ (s : State). s .floor .buckets) (opened-is o))
+    (first : State) (calls : List Call)
+    → Walk (bucketsOf first) (view first) (trace first calls) (2 * inserts first calls + removes first calls) (view (state first calls))
+history-walk first calls = calls-walk (bucketsOf first) first calls refl

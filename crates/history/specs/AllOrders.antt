@@ -6,7 +6,7 @@ use lib.ListN.{length}
 use Rattle.walks.specs.Calls.{ordersNumber}
 use Rattle.walks.specs.AllOrders.{counts, AllOrders}
 use Rattle.history.specs.Counts.{lostSwaps}
-use Rattle.history.specs.History.{State, Opening, Call, state, trace, mostLost}
+use Rattle.history.specs.History.{State, Call, state, trace, mostLost}
 
 module _ (s : State) (depth : ℕ) where
   -- the number by which all orders are refused, or 0
@@ -17,11 +17,11 @@ module _ (s : State) (depth : ℕ) where
   abbrev pub mostInOne : ℕ
   mostInOne = counts (s .floor) (s .board) (s .records) depth .most
 
--- §18.3: all orders after an opening and these calls
-pub record OrdersFrom (o : Opening) (calls : List Call) (depth : ℕ) : Type 0 where
+-- §18.3: all orders, where a stretch begins in this state and these are the calls since
+pub record OrdersFrom (first : State) (calls : List Call) (depth : ℕ) : Type 0 where
   -- it is accepted
-  pub accepted : ordersNumberOf (state o calls) depth ≡ 0
+  pub accepted : ordersNumberOf (state first calls) depth ≡ 0
   -- every order is listed, nothing else is, and none twice
-  pub listed : AllOrders (state o calls .floor) (state o calls .board) (state o calls .records) depth
+  pub listed : AllOrders (state first calls .floor) (state first calls .board) (state first calls .records) depth
   -- §11.3: no walk loses more swaps than demand 3 leaves to it after those that are lost already
-  pub bound : lostSwaps (trace o calls) + mostInOne (state o calls) depth ≤ mostLost o calls
+  pub bound : lostSwaps (trace first calls) + mostInOne (state first calls) depth ≤ mostLost first calls

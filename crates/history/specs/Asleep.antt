@@ -8,8 +8,8 @@ use Rattle.turn.specs.Asleep.{capped}
 use Rattle.engine.specs.declared.Started.{Started}
 use Rattle.history.specs.Trace.{Turn, Entry, acted, retired, By, None, Continues}
 use Rattle.history.specs.Counts.{turnsIn}
-use Rattle.history.specs.History.{State, Opening, Call, look, insert, remove, turn, retire, run, show, count, orders, askTotal, askNext}
-use Rattle.history.specs.History.{listedOf, workersOf, lookBy, insertBy, removeBy, after, entries, traceFrom, opened, state, trace}
+use Rattle.history.specs.History.{State, Call, look, insert, remove, turn, retire, run, show, count, orders, askTotal, askNext}
+use Rattle.history.specs.History.{listedOf, workersOf, lookBy, insertBy, removeBy, after, entries, traceFrom, state, trace}
 use Rattle.history.specs.HowLong.{IsIdle}
 
 -- §20.5: the turns of others since worker i's last one, after these entries, if there were so many before them
@@ -41,26 +41,26 @@ unfoldable pub asleepFrom : ℕ → ℕ → State → List Call → ℕ
 asleepFrom i n s [] = n
 asleepFrom i n s (c ∷ cs) = asleepFrom i (cond (startsOn i s c) 0 (sleptThrough i n (entries s c))) (after s c) cs
 
--- §20.5: what the records tell of sleepers, after an opening and these calls
-pub record Sleeps (o : Opening) (calls : List Call) : Type 0 where
+-- §20.5: what the records tell of sleepers, where a stretch begins in this state and these are the calls since
+pub record Sleeps (first : State) (calls : List Call) : Type 0 where
   -- a worker that is at a call has slept through the turns of others since its start or its last turn
   pub counted :
       (i : ℕ)
-      → i < workersOf o
-      → (IsIdle (state o calls) i → ⊥)
-      → listedOf (state o calls) i .asleep ≡ capped (asleepFrom i 0 (opened o) calls)
+      → i < workersOf first
+      → (IsIdle (state first calls) i → ⊥)
+      → listedOf (state first calls) i .asleep ≡ capped (asleepFrom i 0 first calls)
   -- where the last that was done for it is its start, these are all the turns that were done since
   pub since-start :
       (earlier : List Call) (c : Call) (later : List Call) (i : ℕ)
       → calls ≡ earlier ++ (c ∷ later)
-      → startsOn i (state o earlier) c ≡ true
-      → let since = traceFrom (after (state o earlier) c) later in
+      → startsOn i (state first earlier) c ≡ true
+      → let since = traceFrom (after (state first earlier) c) later in
       None (By i) since
-      → listedOf (state o calls) i .asleep ≡ capped (turnsIn since)
+      → listedOf (state first calls) i .asleep ≡ capped (turnsIn since)
   -- and where it is a turn by which its call goes on, all that were done since that turn
   pub since-turn :
       (older : List Entry) (e : Turn) (newer : List Entry)
-      → trace o calls ≡ older ++ (acted e ∷ newer)
+      → trace first calls ≡ older ++ (acted e ∷ newer)
       → Continues (acted e)
       → None (By (e .worker)) newer
-      → listedOf (state o calls) (e .worker) .asleep ≡ capped (turnsIn newer)
+      → listedOf (state first calls) (e .worker) .asleep ≡ capped (turnsIn newer)

@@ -1,5 +1,5 @@
--- The cells of an opened board: what a worker that holds a slot has put into it, and what stands in a valid slot. That it is so after every
--- opening and every list of calls is `state-cells`, in proofs/Cells.
+-- The cells of an opened board: what a worker that holds a slot has put into it, and what stands in a valid slot. That it is so wherever a
+-- stretch can begin, after every list of calls, is `state-cells`, in proofs/Cells.
 use Prim.Native.Nat.{ℕ, _≤_}
 use mathlib.Core.Path.{_≡_}
 use Rattle.mark.specs.Word.{markOf}

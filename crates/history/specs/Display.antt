@@ -1,5 +1,5 @@
--- What the hall display is told on an opened board (§21). That it is so after every opening and every list of calls is `displays`, in
--- proofs/Display.
+-- What the hall display is told on an opened board (§21). That it is so wherever a stretch can begin, after every list of calls, is
+-- `displays`, in proofs/Display.
 use Prim.Native.Nat.{ℕ}
 use mathlib.Core.Bool.{true, false}
 use mathlib.Core.List.{List}
@@ -14,7 +14,7 @@ use Rattle.hall.specs.Refusals.{hallTurnNumber, hallRetireNumber}
 use Rattle.hall.specs.Calls.{totalCall, nextCall}
 use Rattle.hall.specs.Reading.{Reads, occupiedAt, nextOn, IsNext}
 use Rattle.floor.specs.declared.NextOutcome.{NextOutcome}
-use Rattle.history.specs.History.{State, Opening, Call, listedOf, runOf, state}
+use Rattle.history.specs.History.{State, Call, listedOf, runOf, bucketsOf, state}
 
 -- §14.9, §21.4: what C is told of the next occupied bucket says which it is, or that there is none
 pub record NextTells (board : List ℕ) (n from : ℕ) (x : NextOutcome) : Type 0 where
@@ -22,13 +22,13 @@ pub record NextTells (board : List ℕ) (n from : ℕ) (x : NextOutcome) : Type 
   pub some : x .found ≡ true → IsNext (occupiedAt board) n from (Bucket (x .bucket))
   pub none : x .found ≡ false → IsNext (occupiedAt board) n from Nowhere
 
-module _ (o : Opening) (calls : List Call) where
+module _ (first : State) (calls : List Call) where
   abbrev s : State
-  s = state o calls
+  s = state first calls
 
   -- N
   abbrev n : ℕ
-  n = o .plan .buckets
+  n = bucketsOf first
 
   pub record Displays : Type 0 where
     -- §21.1: the index is the full reading of the board: the number of valid slots, a bit for each bucket that has one, and no other
@@ -40,7 +40,7 @@ module _ (o : Opening) (calls : List Call) where
     -- §21.4: the next occupied bucket is the one that a walk over the board comes to
     pub next : (from : ℕ) → nextCall (s .board) (s .index) (s .floor) from ≡ nextOn (s .board) n from
     -- that is, the first that has a valid slot, or none
-    pub first : (from : ℕ) → IsNext (occupiedAt (s .board)) n from (nextCall (s .board) (s .index) (s .floor) from)
+    pub is-next : (from : ℕ) → IsNext (occupiedAt (s .board)) n from (nextCall (s .board) (s .index) (s .floor) from)
     -- §21.5: no turn and no retiring is refused by 11, and no run stops by it
     pub turns : (i : ℕ) → hallTurnNumber (s .floor) (s .board) (s .index) (length (s .records)) i (listedOf s i) ≡ 11 → ⊥
     pub retirings : (i : ℕ) → hallRetireNumber (s .floor) (s .board) (s .index) (length (s .records)) i (listedOf s i) ≡ 11 → ⊥

@@ -1,5 +1,5 @@
--- What an opened board is. A history is an opening that was accepted and any list of calls since, accepted or refused. What each call does
--- is said in the engine's Calls and the hall's, and nowhere else.
+-- What an opened board is. A history is a state in which a stretch begins, as an opening or a move that is accepted leaves it, and any
+-- list of calls since, accepted or refused. What each call does is said in the engine's Calls and the hall's, and nowhere else.
 use Prim.Native.Nat.{ℕ, _+_, _-_, _*_, _%_, _^_, _<_}
 use mathlib.Core.Bool.{cond}
 use mathlib.Core.List.{List, [], _∷_, _++_, map}
@@ -31,6 +31,14 @@ pub record State : Type 0 where
   pub records : List Worker
   pub index : List ℕ
 
+-- W
+abbrev pub workersOf : State → ℕ
+workersOf s = s .floor .workers
+
+-- N
+abbrev pub bucketsOf : State → ℕ
+bucketsOf s = s .floor .buckets
+
 -- a worker's record, as it stands in the list
 abbrev pub listedOf : State → ℕ → Worker
 listedOf s i = recordIn (s .records) i
@@ -50,10 +58,6 @@ pub record Opening : Type 0 where
   pub accepted : hallOpenNumber (planned plan) (lent .board) (lent .index) (length (lent .records)) ≡ 0
   -- §2.10: a version has 32 bits
   pub version-fits : plan .version < 2 ^ 32
-
--- W
-abbrev pub workersOf : Opening → ℕ
-workersOf o = o .plan .workers
 
 -- what an opening of a state hands back, with the board and the index that it leaves
 abbrev pub openedAs : State → After Opened → State
@@ -265,23 +269,24 @@ begins s (askNext from) = 0
 abbrev pub isStart : ℕ → State → Call → ℕ
 isStart kind s c = cond (eqb (begins s c) kind) 1 0
 
-module _ (o : Opening) (calls : List Call) where
-  -- §2.11: the state that an opening and these calls leave
+-- a stretch: it begins in this state, and these are the calls since
+module _ (first : State) (calls : List Call) where
+  -- §2.11: the state that they leave
   abbrev pub state : State
-  state = stateFrom (opened o) calls
+  state = stateFrom first calls
 
   -- what was done: turns, and retirings
   abbrev pub trace : List Entry
-  trace = traceFrom (opened o) calls
+  trace = traceFrom first calls
 
   -- §11.3: I, the inserts that were accepted
   abbrev pub inserts : ℕ
-  inserts = sumFrom (isStart insertKind) (opened o) calls
+  inserts = sumFrom (isStart insertKind) first calls
 
   -- §11.3: R, the removes that were accepted
   abbrev pub removes : ℕ
-  removes = sumFrom (isStart removeKind) (opened o) calls
+  removes = sumFrom (isStart removeKind) first calls
 
   -- §11.3: (W - 1)(2I + R), the most swaps that may be lost
   abbrev pub mostLost : ℕ
-  mostLost = (workersOf o - 1) * (2 * inserts + removes)
+  mostLost = (workersOf first - 1) * (2 * inserts + removes)

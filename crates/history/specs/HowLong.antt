@@ -1,5 +1,5 @@
 -- How long a call can keep its worker: the figures, and all that is claimed of them. Of the place table that is `look-takes`, in proofs/Looking;
--- of every opening and every list of calls `how-long`, in proofs/HowLong; that the figures are met is in proofs/Figures.
+-- of every stretch, wherever it can begin, `how-long`, in proofs/HowLong; that the figures are met is in proofs/Figures.
 use Prim.Native.Nat.{ℕ, zero, suc, _+_, _≤_, _<_}
 use mathlib.Core.List.{List, [], _∷_}
 use mathlib.Core.Logic.{_⊎_}
@@ -19,7 +19,7 @@ use Rattle.history.specs.Trace.{Entry, acted, retired, Changes, Ends, Ow
 use Rattle.history.specs.Moment.{AtTurn}
 use Rattle.history.specs.InCall.{InCall, ownTurns, numberInCall}
 use Rattle.history.specs.Cells.{markAt, keyAt}
-use Rattle.history.specs.History.{State, Opening, Call, Ticket, run, workersOf, listedOf, lookBy, insertBy, removeBy, turnBy, runOf}
+use Rattle.history.specs.History.{State, Call, Ticket, run, workersOf, listedOf, lookBy, insertBy, removeBy, turnBy, runOf}
 use Rattle.history.specs.History.{startedAs, after, traceFrom, state, trace}
 
 -- ---- the figures
@@ -150,22 +150,22 @@ pub record CallsAlone (s : State) : Type 0 where
 abbrev pub IsDone : After Turned → Type 0
 IsDone x = (report : Report) × (x .handed .answer ≡ Done report)
 
--- what holds after every opening and every list of calls
-pub record HowLong (o : Opening) (calls : List Call) : Type 0 where
+-- what holds where a stretch begins in this state and these are the calls since
+pub record HowLong (first : State) (calls : List Call) : Type 0 where
   -- §15.4: a turn of a busy worker is never refused
-  pub busy-moves : (i : ℕ) → i < workersOf o → (IsIdle (state o calls) i → ⊥) → IsDone (turnBy (state o calls) i)
+  pub busy-moves : (i : ℕ) → i < workersOf first → (IsIdle (state first calls) i → ⊥) → IsDone (turnBy (state first calls) i)
   -- every turn of the trace is one of a call, so that it has its number there
-  pub in-call : (at : AtTurn (trace o calls)) → (call : InCall (trace o calls)) × (call .turn ≡ at .turn) × (call .after ≡ at .after)
+  pub in-call : (at : AtTurn (trace first calls)) → (call : InCall (trace first calls)) × (call .turn ≡ at .turn) × (call .after ≡ at .after)
   -- §15.1: wherever the trace is cut into the call of a look, that has no more than ten turns
-  pub look-most : (at : InCall (trace o calls)) → at .turn .was .kind ≡ lookKind → numberInCall at ≤ lookMost
+  pub look-most : (at : InCall (trace first calls)) → at .turn .was .kind ≡ lookKind → numberInCall at ≤ lookMost
   -- §15.1: and where it has ended it has had four at least
-  pub look-least : (at : InCall (trace o calls)) → at .turn .was .kind ≡ lookKind → Ends (acted (at .turn)) → lookLeast ≤ numberInCall at
+  pub look-least : (at : InCall (trace first calls)) → at .turn .was .kind ≡ lookKind → Ends (acted (at .turn)) → lookLeast ≤ numberInCall at
   -- what a worker alone does from here on
-  pub alone : CallsAlone (state o calls)
+  pub alone : CallsAlone (state first calls)
 
 -- a history has a call of this kind that has ended with just so many turns, its worker being alone meanwhile
-pub record Takes (o : Opening) (calls : List Call) (kind turns : ℕ) : Type 0 where
-  pub at : InCall (trace o calls)
+pub record Takes (first : State) (calls : List Call) (kind turns : ℕ) : Type 0 where
+  pub at : InCall (trace first calls)
   pub of-kind : at .turn .was .kind ≡ kind
   pub ends : Ends (acted (at .turn))
   pub number : numberInCall at ≡ turns

@@ -16,5 +16,7 @@ pub mod InCall
 pub mod HowLong
 pub mod Asleep
 pub mod Retirings
+pub mod Moves
+pub mod Moved
 pub mod Openings
 pub mod Trials

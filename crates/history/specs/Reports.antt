@@ -1,4 +1,4 @@
--- What the reports of an opened board tell. That they do so after every opening and every list of calls is `reports-chain`, in
+-- What the reports of an opened board tell. That they do so wherever a stretch can begin, after every list of calls, is `reports-chain`, in
 -- proofs/Reports; what a turn and a run tell C is in proofs/Library.
 use Prim.Native.Nat.{ℕ, _<_}
 use mathlib.Core.Bool.{true, false, cond}
@@ -7,14 +7,13 @@ use mathlib.Core.Path.{_≡_}
 use lib.Dec.{eqb}
 use Rattle.turn.specs.declared.Progress.the-variants.{GoesOn, Ended}
 use Rattle.turn.specs.declared.Report.{Report}
-use Rattle.turn.specs.Bucket.{cell, markCell}
 use Rattle.turn.specs.Effects.{effectOn, effectOfRetiring}
-use Rattle.engine.specs.Board.{bucketOf, emptyBucket}
+use Rattle.engine.specs.Board.{bucketOf}
 use Rattle.floor.specs.declared.ReportOutcome.{ReportOutcome}
 use Rattle.floor.specs.Told.{actionNumber}
 use Rattle.history.specs.Trace.{Turn, Entry, acted, retired, Wins, Loses, Changes, bucketIn, In, Cut, None}
 use Rattle.history.specs.Moment.{AtTurn, AtMoment, ChangedByAnother}
-use Rattle.history.specs.History.{Opening, Call, state, trace}
+use Rattle.history.specs.History.{State, Call, bucketsOf, state, trace}
 use Rattle.history.specs.Cells.{markWordAt}
 
 -- ---- one report
@@ -47,10 +46,6 @@ pub record OnlyAction (action : ℕ) (x : ReportOutcome) : Type 0 where
 
 -- ---- all of them
 
--- §2.10: the mark word of every bucket as the opening leaves it
-abbrev pub openedWord : Opening → ℕ
-openedWord o = cell (emptyBucket (o .plan .version)) markCell
-
 -- §16.1, §19.4: what an entry makes of the mark word of its bucket: a turn leaves there what it reports, and a retiring empties the held slot
 abbrev pub leftBy : Entry → ℕ → ℕ
 leftBy (acted e) m = e .report .after
@@ -82,23 +77,23 @@ pub record MadeLose (y : Turn) (e : Entry) (since : List Entry) : Type 0 where
   -- and nothing in that bucket since has left another word
   pub latest : None (λ x. In (y .report .bucket) x × Differs x) since
 
--- what the reports of the turns tell, after an opening and the calls since
-pub record ReportsChain (o : Opening) (calls : List Call) : Type 0 where
+-- what the reports of the turns tell, where a stretch begins in this state and these are the calls since
+pub record ReportsChain (first : State) (calls : List Call) : Type 0 where
   -- §4.12: a turn reports the bucket of its worker's lot
-  pub homes : (at : AtTurn (trace o calls)) → In (bucketOf (at .turn .was .key) (o .plan .buckets)) (acted (at .turn))
-  -- §16.1: a turn finds the word that the entries before it leave in its bucket, from the opening's on
-  pub chained : (at : AtTurn (trace o calls)) → at .turn .report .before ≡ wordAfter (at .turn .report .bucket) (openedWord o) (at .before)
+  pub homes : (at : AtTurn (trace first calls)) → In (bucketOf (at .turn .was .key) (bucketsOf first)) (acted (at .turn))
+  -- §16.1: a turn finds the word that the entries before it leave in its bucket, from the one at first on
+  pub chained : (at : AtTurn (trace first calls)) → at .turn .report .before ≡ wordAfter (at .turn .report .bucket) (markWordAt first (at .turn .report .bucket)) (at .before)
   -- §16.1: each bucket has the word that all entries leave there
-  pub stands : (b : ℕ) → b < o .plan .buckets → markWordAt (state o calls) b ≡ wordAfter b (openedWord o) (trace o calls)
+  pub stands : (b : ℕ) → b < bucketsOf first → markWordAt (state first calls) b ≡ wordAfter b (markWordAt first b) (trace first calls)
   -- §16.2: a change leaves another word than it found
-  pub changes : (at : AtTurn (trace o calls)) → Changes (acted (at .turn)) → Differs (acted (at .turn))
+  pub changes : (at : AtTurn (trace first calls)) → Changes (acted (at .turn)) → Differs (acted (at .turn))
   -- §16.2: a turn that is no change leaves the word that it found
-  pub keeps : (at : AtTurn (trace o calls)) → (Changes (acted (at .turn)) → ⊥) → at .turn .report .after ≡ at .turn .report .before
+  pub keeps : (at : AtTurn (trace first calls)) → (Changes (acted (at .turn)) → ⊥) → at .turn .report .after ≡ at .turn .report .before
   -- §16.3: a swap that is won finds the word that its moment left
-  pub wins : (at : AtMoment (trace o calls)) → Wins (at .turn) → at .turn .report .before ≡ at .moment .report .after
+  pub wins : (at : AtMoment (trace first calls)) → Wins (at .turn) → at .turn .report .before ≡ at .moment .report .after
   -- §16.3: a swap that is lost finds another word than its moment left
-  pub loses : (at : AtMoment (trace o calls)) → Loses (at .turn) → at .turn .report .before ≡ at .moment .report .after → ⊥
+  pub loses : (at : AtMoment (trace first calls)) → Loses (at .turn) → at .turn .report .before ≡ at .moment .report .after → ⊥
   -- §16.4: a swap that is lost was made to lose by something between its moment and itself
-  pub made-lose : (at : AtMoment (trace o calls)) → Loses (at .turn) → Cut (MadeLose (at .turn)) (at .between)
+  pub made-lose : (at : AtMoment (trace first calls)) → Loses (at .turn) → Cut (MadeLose (at .turn)) (at .between)
   -- §16.4: so whoever goes back from it through all that was done, with no moment given, comes to what made it lose
-  pub named : (at : AtTurn (trace o calls)) → Loses (at .turn) → Cut (MadeLose (at .turn)) (at .before)
+  pub named : (at : AtTurn (trace first calls)) → Loses (at .turn) → Cut (MadeLose (at .turn)) (at .before)

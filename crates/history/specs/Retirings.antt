@@ -1,11 +1,12 @@
--- Retiring a worker on an opened board. That all of it holds after every opening and every list of calls is `retirings`, in proofs/Retirings.
+-- Retiring a worker on an opened board. That all of it holds wherever a stretch can begin, after every list of calls, is `retirings`, in
+-- proofs/Retirings.
 use Prim.Native.Nat.{ℕ, _<_}
 use mathlib.Core.List.{List, _∷_, _++_}
 use mathlib.Core.Path.{_≡_}
 use Rattle.mark.specs.Word.{version, nextVersion}
 use Rattle.turn.specs.Bucket.{markCell}
 use Rattle.turn.specs.Places.{filled}
-use Rattle.history.specs.History.{State, Opening, Call, retire, workersOf, listedOf, recordOf, retireBy, after, state}
+use Rattle.history.specs.History.{State, Call, retire, workersOf, listedOf, recordOf, retireBy, after, state}
 use Rattle.history.specs.Cells.{cellsAt, markWordAt, markAt, home, Holds}
 use Rattle.history.specs.HowLong.{IsIdle}
 
@@ -33,18 +34,18 @@ pub record IsRetired (s : State) (i : ℕ) (t : State) : Type 0 where
   pub cells : (b k : ℕ) → (Holds (recordOf s i) → b ≡ bucketOfWorker s i → k ≡ markCell → ⊥) → cellsAt t b k ≡ cellsAt s b k
   pub gives-back : Holds (recordOf s i) → GivesBack s i t
 
--- retirings after an opening and these calls
-pub record Retirings (o : Opening) (calls : List Call) : Type 0 where
+-- retirings, where a stretch begins in this state and these are the calls since
+pub record Retirings (first : State) (calls : List Call) : Type 0 where
   -- §19.3: whoever is at a call can be retired
-  pub accepted : (i : ℕ) → i < workersOf o → (IsIdle (state o calls) i → ⊥) → retireBy (state o calls) i .handed .refusal ≡ 0
+  pub accepted : (i : ℕ) → i < workersOf first → (IsIdle (state first calls) i → ⊥) → retireBy (state first calls) i .handed .refusal ≡ 0
   -- §19.1, §19.2: and then is
   pub retired :
-      (i : ℕ) → i < workersOf o → (IsIdle (state o calls) i → ⊥) → IsRetired (state o calls) i (after (state o calls) (retire i))
+      (i : ℕ) → i < workersOf first → (IsIdle (state first calls) i → ⊥) → IsRetired (state first calls) i (after (state first calls) (retire i))
   -- §19.5: a worker that held a slot and comes back after all has in mind a word that its bucket never has again, whatever is called since:
   -- its commit would not be won
   pub never-again :
       (i : ℕ)
-      → Holds (recordOf (state o calls) i)
+      → Holds (recordOf (state first calls) i)
       → (later : List Call)
-      → markWordAt (state o (calls ++ (retire i ∷ later))) (bucketOfWorker (state o calls) i) ≡ filled (recordOf (state o calls) i)
+      → markWordAt (state first (calls ++ (retire i ∷ later))) (bucketOfWorker (state first calls) i) ≡ filled (recordOf (state first calls) i)
       → ⊥

@@ -2,7 +2,7 @@
 -- between two calls.
 use mathlib.Core.List.{List, [], _∷_, _++_, map}
 use lib.ListN.{take}
-use Rattle.history.specs.History.{State, Opening, Call, look, insert, remove, turn, retire, run, show, count, orders, askTotal, askNext, opened, runOf, after}
+use Rattle.history.specs.History.{State, Call, look, insert, remove, turn, retire, run, show, count, orders, askTotal, askNext, runOf, after}
 
 -- a call by itself, or the turns that a run does
 abbrev pub single : State → Call → List Call
@@ -24,8 +24,8 @@ singlyFrom s [] = []
 singlyFrom s (c ∷ cs) = single s c ++ singlyFrom (after s c) cs
 
 -- the calls of a history so
-abbrev pub singly : Opening → List Call → List Call
-singly o calls = singlyFrom (opened o) calls
+abbrev pub singly : State → List Call → List Call
+singly first calls = singlyFrom first calls
 
 -- no call is a run
 abbrev pub NoRuns : List Call → Type 0

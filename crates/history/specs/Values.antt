@@ -13,7 +13,7 @@ use Rattle.engine.specs.Board.{bucketAt}
 use Rattle.history.specs.Numbers.{OneOf, Rising}
 use Rattle.history.specs.Trace.{Turn, acted, IsTurn, Some, None}
 use Rattle.history.specs.Moment.{AtTurn}
-use Rattle.history.specs.History.{State, Opening, Call, look, insert, remove, turn, retire, run, show, count, orders, askTotal, askNext, opened, insertBy}
+use Rattle.history.specs.History.{State, Call, look, insert, remove, turn, retire, run, show, count, orders, askTotal, askNext, insertBy}
 use Rattle.history.specs.History.{after, turnEntry, traceFrom, state, trace}
 
 -- the value that stands in a slot of a bucket; what is said of values below needs no bound on either number
@@ -50,52 +50,52 @@ ticketsFrom s [] = []
 ticketsFrom s (c ∷ cs) = spentBy s c ++ ticketsFrom (after s c) cs
 
 -- the tickets of the inserts that were accepted, in the order of their starts
-abbrev pub tickets : Opening → List Call → List ℕ
-tickets o calls = ticketsFrom (opened o) calls
+abbrev pub tickets : State → List Call → List ℕ
+tickets first calls = ticketsFrom first calls
 
 -- ---- the theorem
 
--- §3.6: what holds after every opening and every list of calls
-pub record NoValueComesBack (o : Opening) (calls : List Call) : Type 0 where
-  -- the accepted tickets rise, from 1 at least
-  pub rising : Rising 0 (tickets o calls)
+-- §3.6: what holds where a stretch begins in this state and these are the calls since
+pub record NoValueComesBack (first : State) (calls : List Call) : Type 0 where
+  -- the accepted tickets rise, from above the last one at first
+  pub rising : Rising (first .floor .last) (tickets first calls)
   -- the ticket that a turn stores is one of the accepted ones
-  pub stores-ticket : (at : AtTurn (trace o calls)) → Stores (at .turn) → OneOf (tickets o calls) (at .turn .was .ticket)
+  pub stores-ticket : (at : AtTurn (trace first calls)) → Stores (at .turn) → OneOf (tickets first calls) (at .turn .was .ticket)
   -- no turn stores a ticket that a turn before it stored
-  pub stored-once : (at : AtTurn (trace o calls)) → Stores (at .turn) → None (IsTurn (StoresTicket (at .turn .was .ticket))) (at .before)
+  pub stored-once : (at : AtTurn (trace first calls)) → Stores (at .turn) → None (IsTurn (StoresTicket (at .turn .was .ticket))) (at .before)
   -- wherever the calls are cut before a turn that stores, no slot of any bucket had its ticket as a value then
   pub stood-nowhere :
       (earlier rest : List Call)
       → calls ≡ earlier ++ rest
-      → (at : AtTurn (traceFrom (state o earlier) rest))
+      → (at : AtTurn (traceFrom (state first earlier) rest))
       → Stores (at .turn)
       → (b p : ℕ)
-      → valueAt (state o earlier) b p ≡ at .turn .was .ticket
+      → valueAt (state first earlier) b p ≡ at .turn .was .ticket
       → ⊥
   -- a turn that comes next and stores leaves its ticket as the value of the slot that it holds
   pub writes :
       (i : ℕ) (e : Turn)
-      → turnEntry (state o calls) i ≡ acted e ∷ []
+      → turnEntry (state first calls) i ≡ acted e ∷ []
       → Stores e
-      → valueAt (after (state o calls) (turn i)) (e .report .bucket) (e .was .held) ≡ e .was .ticket
+      → valueAt (after (state first calls) (turn i)) (e .report .bucket) (e .was .held) ≡ e .was .ticket
   -- a turn that comes next leaves every other value as it was, and all of them where it does not store
   pub spares :
       (i : ℕ) (e : Turn)
-      → turnEntry (state o calls) i ≡ acted e ∷ []
+      → turnEntry (state first calls) i ≡ acted e ∷ []
       → (b p : ℕ)
       → (Stores e → b ≡ e .report .bucket → p ≡ e .was .held → ⊥)
-      → valueAt (after (state o calls) (turn i)) b p ≡ valueAt (state o calls) b p
+      → valueAt (after (state first calls) (turn i)) b p ≡ valueAt (state first calls) b p
   -- a retiring leaves every value as it was
-  pub retiring-spares : (i b p : ℕ) → valueAt (after (state o calls) (retire i)) b p ≡ valueAt (state o calls) b p
-  -- a value is 0, as the opening left it, or a ticket that a turn stored
+  pub retiring-spares : (i b p : ℕ) → valueAt (after (state first calls) (retire i)) b p ≡ valueAt (state first calls) b p
+  -- a value is the one that stood there at first, or a ticket that a turn stored
   pub comes-from :
       (b p : ℕ)
-      → (valueAt (state o calls) b p ≡ 0) ⊎ Some (IsTurn (StoresTicket (valueAt (state o calls) b p))) (trace o calls)
+      → (valueAt (state first calls) b p ≡ valueAt first b p) ⊎ Some (IsTurn (StoresTicket (valueAt (state first calls) b p))) (trace first calls)
   -- where a value is not the one after some earlier calls, no slot of any bucket had it then or at any point before
   pub never-back :
-      (first second third : List Call)
-      → calls ≡ (first ++ second) ++ third
+      (early later last : List Call)
+      → calls ≡ (early ++ later) ++ last
       → (b p c q : ℕ)
-      → (valueAt (state o calls) b p ≡ valueAt (state o (first ++ second)) b p → ⊥)
-      → valueAt (state o first) c q ≡ valueAt (state o calls) b p
+      → (valueAt (state first calls) b p ≡ valueAt (state first (early ++ later)) b p → ⊥)
+      → valueAt (state first early) c q ≡ valueAt (state first calls) b p
       → ⊥

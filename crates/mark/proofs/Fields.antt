@@ -34,6 +34,11 @@ module _ (w : ℕ) where
       (λ i past. rw (set-past w i past m) fits)
       i
 
+-- a word that is a version alone has no mark
+pub mark-none : (v : ℕ) → v < 2 ^ 32 → (i : ℕ) → markOf v i ≡ 0
+unfolding markOf
+mark-none v fits = slots (λ (i : ℕ). markOf v i ≡ 0) (omega arith) (omega arith) (omega arith) (λ i past. mark-past v i past)
+
 -- ---- the word is its fields
 
 module _ (w : ℕ) where

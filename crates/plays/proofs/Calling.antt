@@ -60,7 +60,7 @@ module _ (o : Opening) (done : List Call) (p : Point) (so : Stands o done p) (c 
   module _ (small : c .ticket < 2 ^ 32) (accepted : callField c (p .left) .stop ≡ 0) where
     -- the history's state
     abbrev s : State
-    s = state o done
+    s = state (opened o) done
 
     -- there is such a worker
     known : i < s .floor .workers
@@ -73,17 +73,17 @@ module _ (o : Opening) (done : List Call) (p : Point) (so : Stands o done p) (c 
     abbrev more : List Call
     more = done ++ (callOf c ∷ [])
 
-    state-is : state o more ≡ startedAs s i x
+    state-is : state (opened o) more ≡ startedAs s i x
     state-is =
         stateFrom-then (opened o) done (callOf c)
         ∙ after-call s c small
         ∙ rw (← so .stands .board, seat-same o done p so i, record-same o done p so i known)
 
-    trace-is : trace o more ≡ trace o done
+    trace-is : trace (opened o) more ≡ trace (opened o) done
     trace-is =
         traceFrom-then (opened o) done (callOf c)
-        ∙ ap (λ (es : List Entry). trace o done ++ es) (entries-call s c)
-        ∙ append-nil (trace o done)
+        ∙ ap (λ (es : List Entry). trace (opened o) done ++ es) (entries-call s c)
+        ∙ append-nil (trace (opened o) done)
 
     -- the point after it
     pub call-stands :

@@ -49,7 +49,7 @@ module _ (sheet board : List ℕ) (bytes : Bytes sheet) (short : length sheet �
   accepted-listing f =
       let play = plays-history f bytes in
       let h = play .1 .1 in
-      never-refused _ (History.trace (play .0) (play .1 .0)) (h .line)
+      never-refused _ (History.trace (History.opened (play .0)) (play .1 .0)) (h .line)
       (by (h .last) (λ number offset. h .refused-by (play .1 .0) (h .end) number offset (h .reached))) (ap (λ (x : After (List ℕ)). x .handed) (h .listed))
     where
       by : {o : History.Opening} {calls : List History.Call} {p : Point} {line : List ℕ}

@@ -14,7 +14,7 @@ use Rattle.sheet.specs.declared.Read.the-variants.{Whole}
 use Rattle.sheet.specs.Fields.{readField}
 use Rattle.sheet.specs.Listing.{wordsAsked, ownPlay, listing}
 use Rattle.history.specs.History as History
-use Rattle.history.specs.History.{Call, trace}
+use Rattle.history.specs.History.{Call, opened, trace}
 use Rattle.plays.specs.Points.{Bytes, FloorAccepted}
 use Rattle.plays.specs.Plays.{endLines, PlaysHistory}
 use Rattle.plays.proofs.Plays.{open-stop, plays-history}
@@ -61,7 +61,7 @@ module _ (sheet : List ℕ) where
   pub listing-plays :
       (f : FloorAccepted sheet (ownBoard sheet))
       → Bytes sheet
-      → (o : History.Opening) × ((calls : List Call) × ((h : PlaysHistory f o calls) × (listing sheet ≡ endLines 1 (trace o calls) ++ h .line)))
+      → (o : History.Opening) × ((calls : List Call) × ((h : PlaysHistory f o calls) × (listing sheet ≡ endLines 1 (trace (opened o) calls) ++ h .line)))
   unfolding listing ownPlay
   listing-plays f bytes =
       let play = plays-history f bytes in

@@ -24,8 +24,8 @@ use Rattle.sheet.specs.Listing.{Told, Ending, listedIn, fieldsFrom, played}
 use Rattle.sheet.proofs.Fielding.{whole-next}
 use Rattle.history.specs.Trace.{total}
 use Rattle.history.specs.Counts.{countsOf}
-use Rattle.history.specs.History.{State, Opening, Call, state, trace, stateFrom, traceFrom}
-use Rattle.history.proofs.Opened.{opened-is}
+use Rattle.history.specs.History.{State, Opening, Call, opened, state, trace, stateFrom, traceFrom}
+use Rattle.history.proofs.Opened.{opened-is, opening-ready}
 use Rattle.history.proofs.DemandThree.{demand-three}
 use Rattle.plays.specs.Points.{Point, goes, over, refused, nextOf, Steps, stays, steps, Bytes, FloorAccepted, firstPoint}
 use Rattle.plays.specs.Plays.{endLines, OnTheWay, LastOf, stopOf, PlaysHistory}
@@ -136,7 +136,7 @@ module _ {sheet board : List ℕ} (f : FloorAccepted sheet board) (bytes : Bytes
   first-is = open-is (f .plan) board none
 
   first-state :
-      state opening []
+      state (opened opening) []
       ≡ record {
         board = openedBoard (f .plan .buckets) (f .plan .version);
         floor = planned (f .plan);
@@ -155,7 +155,7 @@ module _ {sheet board : List ℕ} (f : FloorAccepted sheet board) (bytes : Bytes
       opened-is opening ∙ ap laid (length-replicate (f .plan .workers) idle)
 
   -- no turn is counted, and none listed
-  no-turn : (noTurns ≡ countsOf (trace opening [])) × ([] ≡ endLines 1 (trace opening []))
+  no-turn : (noTurns ≡ countsOf (trace (opened opening) [])) × ([] ≡ endLines 1 (trace (opened opening) []))
   unfolding traceFrom total endLines
   no-turn = (refl, refl)
 
@@ -197,7 +197,7 @@ module _ {sheet board : List ℕ} (f : FloorAccepted sheet board) (bytes : Bytes
   -- the last line, told from the history
   last-of :
       {p : Point} {t : Told}
-      → p .left .handed .totals ≡ countsOf (trace opening calls)
+      → p .left .handed .totals ≡ countsOf (trace (opened opening) calls)
       → LastTold sheet p t
       → LastOf sheet opening calls p (t .lines)
   last-of {p} counted (totals end) = subst (λ (t : Totals). LastOf sheet opening calls p (totalsLine t)) (sym counted) (Last.totals end)
@@ -214,7 +214,7 @@ module _ {sheet board : List ℕ} (f : FloorAccepted sheet board) (bytes : Bytes
           record {
             plan = refl;
             points = λ done p reached. (one-play sheet reached (finishes .reached) (finishes .last), at-point done p reached .stands);
-            bound = λ done p reached. rw (at-point done p reached .stands .totals) (demand-three opening done .bound);
+            bound = λ done p reached. rw (at-point done p reached .stands .totals) (demand-three (opening-ready opening) done .bound);
             refused-by =
                 λ done p number offset reached stop.
                 subst (Fine opening sheet bytes done) stop (fine opening sheet bytes done p (at-point done p reached));

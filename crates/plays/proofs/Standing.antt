@@ -16,9 +16,10 @@ use Rattle.engine.specs.Calls.{recordIn, blank, afterTurn}
 use Rattle.engine.proofs.Sizes.{right-listed}
 use Rattle.hall.proofs.Same.{turn-same-number}
 use Rattle.sheet.specs.Play.{seatAt}
-use Rattle.history.specs.History.{State, Opening, Call, listedOf, seatOf, workersOf, state}
+use Rattle.history.specs.History.{State, Opening, Call, opened, listedOf, seatOf, state}
 use Rattle.history.specs.Numbers.{OneOf}
 use Rattle.history.specs.Unbroken.{Unbroken}
+use Rattle.history.proofs.Opened.{opened-workers, opening-ready}
 use Rattle.history.proofs.SameSizes.{state-workers}
 use Rattle.history.proofs.Unbroken.{state-unbroken}
 use Rattle.history.proofs.Unrefused.{start-numbers, turn-numbers}
@@ -74,7 +75,7 @@ module _ (o : Opening) (done : List Call) (p : Point) (so : Stands o done p) whe
 
   -- the history's state
   abbrev s : State
-  s = state o done
+  s = state (opened o) done
 
   -- the desk's records, and the board
   abbrev ws : List Worker
@@ -85,7 +86,7 @@ module _ (o : Opening) (done : List Call) (p : Point) (so : Stands o done p) whe
 
   -- nothing there is broken
   abbrev ok : Unbroken s
-  ok = state-unbroken o done
+  ok = state-unbroken (opening-ready o) done
 
   listed : length (s .records) ≡ s .floor .workers
   listed = right-listed (s .floor) (s .board) (length (s .records)) (ok .sized)
@@ -100,21 +101,21 @@ module _ (o : Opening) (done : List Call) (p : Point) (so : Stands o done p) whe
   -- a worker that there is has the same record
   pub record-same : (i : ℕ) → i < s .floor .workers → listedOf s i ≡ recordIn ws i
   record-same i known =
-      let under : i < workersOf o = omega (arith, state-workers o done) in
-      ap (λ (l : List Worker). recordIn l i) (sym (so .stands .records)) ∙ getD-take (workersOf o) ws i blank under
+      let under : i < o .plan .workers = omega (arith, state-workers (opened o) done, opened-workers o) in
+      ap (λ (l : List Worker). recordIn l i) (sym (so .stands .records)) ∙ getD-take (o .plan .workers) ws i blank under
 
   -- which is put back in both
-  pub records-set : (i : ℕ) (v : Worker) → i < s .floor .workers → take (workersOf o) (set ws i v) ≡ set (s .records) i v
+  pub records-set : (i : ℕ) (v : Worker) → i < s .floor .workers → take (o .plan .workers) (set ws i v) ≡ set (s .records) i v
   records-set i v known =
-      let under : i < workersOf o = omega (arith, state-workers o done) in
-      take-set-lt (workersOf o) ws i v under ∙ ap (λ (l : List Worker). set l i v) (so .stands .records)
+      let under : i < o .plan .workers = omega (arith, state-workers (opened o) done, opened-workers o) in
+      take-set-lt (o .plan .workers) ws i v under ∙ ap (λ (l : List Worker). set l i v) (so .stands .records)
 
   -- so it is after a turn, through which the others sleep
-  pub records-turn : (i : ℕ) (v : Worker) → i < s .floor .workers → take (workersOf o) (afterTurn ws i v) ≡ afterTurn (s .records) i v
+  pub records-turn : (i : ℕ) (v : Worker) → i < s .floor .workers → take (o .plan .workers) (afterTurn ws i v) ≡ afterTurn (s .records) i v
   records-turn i v known =
-      let under : i < workersOf o = omega (arith, state-workers o done) in
-      take-set-lt (workersOf o) (map slept ws) i v under
-      ∙ ap (λ (l : List Worker). set l i v) (take-slept (workersOf o) ws)
+      let under : i < o .plan .workers = omega (arith, state-workers (opened o) done, opened-workers o) in
+      take-set-lt (o .plan .workers) (map slept ws) i v under
+      ∙ ap (λ (l : List Worker). set l i v) (take-slept (o .plan .workers) ws)
       ∙ ap (λ (l : List Worker). afterTurn l i v) (so .stands .records)
 
   -- ---- the numbers of refusal

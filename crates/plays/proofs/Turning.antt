@@ -26,6 +26,7 @@ use Rattle.history.specs.History.{State, Opening, Call, turn, listedOf, seatOf,
 use Rattle.history.proofs.Counts.{one-is, total-append}
 use Rattle.history.proofs.Runs.{same-totals}
 use Rattle.history.proofs.Listed.{up-is}
+use Rattle.history.proofs.Opened.{opening-ready}
 use Rattle.history.proofs.Unbroken.{state-unbroken}
 use Rattle.history.proofs.Histories.{stateFrom-then, traceFrom-then}
 use Rattle.plays.specs.Points.{Point}
@@ -69,7 +70,7 @@ module _ (o : Opening) (done : List Call) (p : Point) (so : Stands o done p) (i 
 
   -- the history's state
   abbrev s : State
-  s = state o done
+  s = state (opened o) done
 
   none : turnNumber f (p .left .words) (f .workers) i w ≡ 0
   none = sym (turn-stop i (p .left)) ∙ stop
@@ -107,7 +108,7 @@ module _ (o : Opening) (done : List Call) (p : Point) (so : Stands o done p) (i 
   -- the sheet has no index, and the history's makes no turn another
   history-turn : turnBy s i ≡ did
   history-turn =
-      turn-same (seatOf s i) (state-unbroken o done .reads) (listedOf s i)
+      turn-same (seatOf s i) (state-unbroken (opening-ready o) done .reads) (listedOf s i)
       ∙ rw (← so .stands .board, seat-same o done p so i, record-same o done p so i known) (turn-done (p .left .words) (seatAt f i) w none)
 
   -- its entry, for a worker with this record before it
@@ -121,31 +122,31 @@ module _ (o : Opening) (done : List Call) (p : Point) (so : Stands o done p) (i 
   abbrev more : List Call
   more = done ++ (turn i ∷ [])
 
-  state-is : state o more ≡ turnedAs s i did
+  state-is : state (opened o) more ≡ turnedAs s i did
   state-is = stateFrom-then (opened o) done (turn i) ∙ ap (turnedAs s i) history-turn
 
-  trace-is : trace o more ≡ trace o done ++ (acted e ∷ [])
+  trace-is : trace (opened o) more ≡ trace (opened o) done ++ (acted e ∷ [])
   trace-is =
       traceFrom-then (opened o) done (turn i)
-      ∙ ap (λ (x : After Turned). trace o done ++ entryOf s i (x .handed .answer)) history-turn
-      ∙ ap (λ (v : Worker). trace o done ++ (acted (entryFor v) ∷ [])) (up-is s i ∙ ap awake (record-same o done p so i known))
+      ∙ ap (λ (x : After Turned). trace (opened o) done ++ entryOf s i (x .handed .answer)) history-turn
+      ∙ ap (λ (v : Worker). trace (opened o) done ++ (acted (entryFor v) ∷ [])) (up-is s i ∙ ap awake (record-same o done p so i known))
 
   -- a count that goes up by what the entry counts for is that of the trace
-  counts-on : (count : Entry → ℕ) (before after : ℕ) → before ≡ total count (trace o done) → after ≡ before + count (acted e) → after ≡ total count (trace o more)
+  counts-on : (count : Entry → ℕ) (before after : ℕ) → before ≡ total count (trace (opened o) done) → after ≡ before + count (acted e) → after ≡ total count (trace (opened o) more)
   unfolding total
-  counts-on count before after was now = rw trace-is (omega (arith, was, now, total-append count (trace o done) (acted e ∷ [])))
+  counts-on count before after was now = rw trace-is (omega (arith, was, now, total-append count (trace (opened o) done) (acted e ∷ [])))
 
   -- what the desk counted before it
-  was-counted : d .totals ≡ countsOf (trace o done)
+  was-counted : d .totals ≡ countsOf (trace (opened o) done)
   was-counted = so .stands .totals
 
-  turns-are : d .totals .turns ≡ turnsIn (trace o done)
+  turns-are : d .totals .turns ≡ turnsIn (trace (opened o) done)
   turns-are = ap (λ (n : Totals). n .turns) was-counted
 
   -- with the turn its totals are the counts of the trace
-  totals-are : t ≡ countsOf (trace o more)
+  totals-are : t ≡ countsOf (trace (opened o) more)
   totals-are =
-      same-totals t (trace o more) (counts-on (λ e. oneIf (isTurn e)) _ _ turns-are refl)
+      same-totals t (trace (opened o) more) (counts-on (λ e. oneIf (isTurn e)) _ _ turns-are refl)
       (counts-on (λ e. oneIf (isChange e)) _ _ (ap (λ (n : Totals). n .changes) was-counted)
       (ap (λ (n : ℕ). d .totals .changes + n) (one-is (isChange (acted e)) _ (changes-change _ _) (changes-other _ _))))
       (counts-on (λ e. oneIf (isLost e)) _ _ (ap (λ (n : Totals). n .lost) was-counted)
@@ -169,7 +170,7 @@ module _ (o : Opening) (done : List Call) (p : Point) (so : Stands o done p) (i 
                   rw (desk-turn, trace-is)
                   (ap (λ (l : List ℕ). p .lines ++ l) (line-is (t .turns) e (step .stepped .progress))
                   ∙ ap₂ (λ (l : List ℕ) (n : ℕ). l ++ lineFor (n + 1) e (step .stepped .progress)) (so .stands .lines) turns-are
-                  ∙ sym (end-lines-then 1 (trace o done) e));
+                  ∙ sym (end-lines-then 1 (trace (opened o) done) e));
             };
         long = rw desk-turn (after-long (d .records) i (step .stepped .worker) ∙ so .long);
       }

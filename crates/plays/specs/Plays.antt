@@ -13,7 +13,7 @@ use Rattle.sheet.specs.Listing.{listedIn, played}
 use Rattle.history.specs.Trace.{Turn, Entry, acted, retired}
 use Rattle.history.specs.Counts.{countsOf}
 use Rattle.history.specs.Numbers.{OneOf}
-use Rattle.history.specs.History.{Opening, Call, workersOf, state, trace, mostLost}
+use Rattle.history.specs.History.{Opening, Call, opened, state, trace, mostLost}
 use Rattle.plays.specs.Points.{Point, Next, goes, over, refused, nextOf, Steps, FloorAccepted, firstPoint}
 
 -- the E line of a turn that ended its call, with its number, worker, kind and answer; no line where the call goes on
@@ -30,13 +30,13 @@ endLines n (retired r ∷ es) = endLines n es
 -- a point stands as an opening and these calls leave it
 pub record StandsAs (o : Opening) (calls : List Call) (p : Point) : Type 0 where
   -- the board, the floor, and the first W of the program's 64 records
-  pub board : p .left .words ≡ state o calls .board
-  pub floor : p .left .handed .floor ≡ state o calls .floor
-  pub records : take (workersOf o) (p .left .handed .records) ≡ state o calls .records
+  pub board : p .left .words ≡ state (opened o) calls .board
+  pub floor : p .left .handed .floor ≡ state (opened o) calls .floor
+  pub records : take (o .plan .workers) (p .left .handed .records) ≡ state (opened o) calls .records
   -- the totals are the counts of the trace: turns, changes, lost swaps, full rounds
-  pub totals : p .left .handed .totals ≡ countsOf (trace o calls)
+  pub totals : p .left .handed .totals ≡ countsOf (trace (opened o) calls)
   -- each line so far is that of a turn that ended its call
-  pub lines : p .lines ≡ endLines 1 (trace o calls)
+  pub lines : p .lines ≡ endLines 1 (trace (opened o) calls)
 
 -- the numbers by which a sheet is refused once its floor is accepted
 abbrev pub refusals : List ℕ
@@ -51,7 +51,7 @@ pub record OnTheWay (sheet : List ℕ) (done : List Call) (p : Point) (calls : L
 -- the last line of a listing
 pub data LastOf (sheet : List ℕ) (o : Opening) (calls : List Call) (end : Point) : List ℕ → Type 0 where
   -- at the end of the sheet the counts of the trace
-  totals : nextOf sheet end ≡ over → LastOf sheet o calls end (totalsLine (countsOf (trace o calls)))
+  totals : nextOf sheet end ≡ over → LastOf sheet o calls end (totalsLine (countsOf (trace (opened o) calls)))
   -- or the refusal that stopped it
   refusal : (number offset : ℕ) → nextOf sheet end ≡ refused number offset → LastOf sheet o calls end (refusalLine number offset)
 
@@ -71,7 +71,7 @@ pub record PlaysHistory {sheet board : List ℕ} (f : FloorAccepted sheet board)
   -- every point of the play is on the way there, and stands as the calls so far leave it
   pub points : (done : List Call) (p : Point) → Steps sheet (firstPoint f) done p → OnTheWay sheet done p calls end × StandsAs o done p
   -- the lost swaps of the play so far are at most (W - 1)(2I + R), I and R counted from the calls so far
-  pub bound : (done : List Call) (p : Point) → Steps sheet (firstPoint f) done p → p .left .handed .totals .lost ≤ mostLost o done
+  pub bound : (done : List Call) (p : Point) → Steps sheet (firstPoint f) done p → p .left .handed .totals .lost ≤ mostLost (opened o) done
   -- what is refused is refused by 2, 4, 5, 6 or 8, and so by 3 and by 7 never
   pub refused-by :
       (done : List Call) (p : Point) (number offset : ℕ)
@@ -81,7 +81,7 @@ pub record PlaysHistory {sheet board : List ℕ} (f : FloorAccepted sheet board)
   -- the listing is the E lines of the trace, and then one last line
   pub line : List ℕ
   pub last : LastOf sheet o calls end line
-  pub listed : listedIn (played sheet board) ≡ after (state o calls .board) (endLines 1 (trace o calls) ++ line)
+  pub listed : listedIn (played sheet board) ≡ after (state (opened o) calls .board) (endLines 1 (trace (opened o) calls) ++ line)
   -- where nothing is refused, the desk from which the sheet can go on is that of the last point
   pub left : nextOf sheet end ≡ over → played sheet board .handed .desk ≡ end .left .handed
   -- the number that is handed back is that of the refusal, or 0

@@ -112,6 +112,7 @@ fn shut() -> Floor
         workers: 0,
         buckets: 0,
         last: 0,
+        version: 0,
     }
 }
 

@@ -20,7 +20,7 @@ use Rattle.trials.specs.Figures.{figures}
 pub the-figures-hold : AllHold figures
 unfolding
     playedFrom moreTurns flatMap
-    Walks.ordersCall Walks.ordersNumber Walks.anyRecordBroken Orders.counted Orders.orders Orders.allIdle Orders.busyFrom
+    Walks.ordersCall Walks.ordersNumber Refusals.anyRecord Orders.counted Orders.orders Orders.allIdle Orders.busyFrom
     Calls.openCall Calls.startCall Calls.turned Calls.turnCall Calls.runFrom Calls.runCall
     Refusals.wrongFloor Refusals.wrongSizes Refusals.openNumber Refusals.startNumber Refusals.eachNumber Refusals.turnNumber Refusals.runNumber
     Turn.turnRefusal Record.broken Record.isIdle Record.sound Record.fits Record.mayStand Record.ticketFits Record.heldFits Record.wordFits Asleep.slept

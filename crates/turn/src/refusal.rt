@@ -32,3 +32,9 @@ pub const NO_SMALL_CLASS: u8 = 10;
 
 // §6.11: an index that does not tell what the bucket's marks do.
 pub const UNTRUE_INDEX: u8 = 11;
+
+// §6.12: a move, and a worker is at a call.
+pub const NOT_AT_REST: u8 = 12;
+
+// §6.13: a move, and a new bucket would need a fourth slot.
+pub const CROWDED_BUCKET: u8 = 13;

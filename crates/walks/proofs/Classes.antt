@@ -16,13 +16,13 @@ use Rattle.turn.specs.Bucket.{brokenBucket}
 use Rattle.turn.proofs.Sound.{whole-parts}
 use Rattle.engine.specs.declared.Floor.{Floor}
 use Rattle.engine.specs.Board.{bucketAt}
-use Rattle.engine.specs.Refusals.{wrongSizes}
+use Rattle.engine.specs.Refusals.{wrongSizes, anyRecord}
 use Rattle.engine.specs.Calls.{recordIn}
 use Rattle.engine.proofs.Sizes.{both-fail, right-sizes, right-listed}
 use Rattle.walks.specs.declared.Class.{Class}
 use Rattle.walks.specs.declared.Walked.the-variants.{Refusal}
 use Rattle.walks.specs.Walk.{seated, walks}
-use Rattle.walks.specs.Calls.{notSmall, anyRecordBroken, ordersNumber, ordersCall, recordsOf, classOf}
+use Rattle.walks.specs.Calls.{notSmall, ordersNumber, ordersCall, recordsOf, classOf}
 use Rattle.walks.proofs.Sitting.{Sitting, bucket-is-board}
 use Rattle.walks.proofs.Counted.{walksFrom}
 use Rattle.walks.proofs.Three.{walksFrom-idle, walksFrom-three}
@@ -49,15 +49,15 @@ small-parts f depth is =
     }
 
 -- of a list in which no record is broken, each is not
-pub each-sound : (ws : List Worker) → anyRecordBroken ws ≡ false → (i : ℕ) → i < length ws → broken (recordIn ws i) ≡ false
-unfolding anyRecordBroken
+pub each-sound : (ws : List Worker) → anyRecord broken ws ≡ false → (i : ℕ) → i < length ws → broken (recordIn ws i) ≡ false
+unfolding anyRecord
 each-sound [] none i low = absurd (omega arith)
 each-sound (w ∷ ws) none zero low = both-fail (broken w) _ none .0
 each-sound (w ∷ ws) none (suc i) low = each-sound ws (both-fail (broken w) _ none .1) i (omega arith)
 
 -- and a list of which each is not has no broken record
-pub all-sound : (ws : List Worker) → ((i : ℕ) → i < length ws → broken (recordIn ws i) ≡ false) → anyRecordBroken ws ≡ false
-unfolding anyRecordBroken
+pub all-sound : (ws : List Worker) → ((i : ℕ) → i < length ws → broken (recordIn ws i) ≡ false) → anyRecord broken ws ≡ false
+unfolding anyRecord
 all-sound [] each = refl
 all-sound (w ∷ ws) each = rw (each 0 (omega arith)) (all-sound ws (λ i low. each (suc i) (omega arith)))
 
@@ -73,7 +73,7 @@ unfolding ordersNumber
 walkable board f records listed depth long none =
     let sizes = passes (wrongSizes f board listed) 0 _ none in
     let class = passes (notSmall f depth) 9 _ (sizes .1) in
-    let sound = passes (anyRecordBroken records) 2 _ (class .1) in
+    let sound = passes (anyRecord broken records) 2 _ (class .1) in
     let whole = passes (brokenBucket (bucketAt board 0)) 6 _ (sound .1) in
     let right = right-sizes f board listed (sizes .0) in
     let small = small-parts f depth (class .0) in

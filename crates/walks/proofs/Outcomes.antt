@@ -11,14 +11,14 @@ use Rattle.turn.specs.declared.Worker.{Worker}
 use Rattle.turn.specs.Worker.{broken}
 use Rattle.turn.proofs.Kept.{idle-kept}
 use Rattle.engine.specs.declared.Floor.{Floor}
-use Rattle.engine.specs.Refusals.{wrongSizes}
+use Rattle.engine.specs.Refusals.{wrongSizes, anyRecord}
 use Rattle.engine.proofs.Sizes.{right-sizes, right-listed}
 use Rattle.walks.specs.declared.Class.{Class}
 use Rattle.walks.specs.declared.OrdersOutcome.{OrdersOutcome}
 use Rattle.walks.specs.declared.Walked.{Walked}
 use Rattle.walks.specs.declared.Walked.the-variants.{Refusal, Orders}
 use Rattle.walks.specs.Walk.{seated, classNumber, walks}
-use Rattle.walks.specs.Calls.{notSmall, anyRecordBroken, sizeNumber, ordersNumber, ordersCall, walkedNumber, recordsOf, classOf}
+use Rattle.walks.specs.Calls.{notSmall, sizeNumber, ordersNumber, ordersCall, walkedNumber, recordsOf, classOf}
 use Rattle.walks.specs.Told.{ordersTold}
 use Rattle.walks.specs.Promises.{OrdersWalked, OrdersLeft}
 use Rattle.walks.proofs.Sitting.{bucket-is-board}
@@ -28,8 +28,8 @@ use Rattle.walks.proofs.Classes.{Small, small-parts, walkable, walksFro
 -- nobody who is seated in a place that is left is broken
 any-seated :
     (a b c : Worker) (listed : ℕ) → 1 ≤ listed → listed ≤ 3
-    → anyRecordBroken (take listed (a ∷ b ∷ c ∷ [])) ≡ (broken a || (broken (seated b 1 listed) || broken (seated c 2 listed)))
-unfolding anyRecordBroken
+    → anyRecord broken (take listed (a ∷ b ∷ c ∷ [])) ≡ (broken a || (broken (seated b 1 listed) || broken (seated c 2 listed)))
+unfolding anyRecord
 any-seated a b c zero some few = absurd (omega arith)
 any-seated a b c (suc zero) some few = rw idle-kept
 any-seated a b c (suc (suc zero)) some few = rw idle-kept

@@ -1,6 +1,6 @@
 -- All orders as a call: its number of refusal, and its whole outcome as a function of what it is given.
 use Prim.Native.Nat.{ℕ}
-use mathlib.Core.Bool.{Bool, false, cond, _&&_, _||_, not}
+use mathlib.Core.Bool.{Bool, cond, _&&_, not}
 use mathlib.Core.List.{List, [], _∷_}
 use lib.ListN.{length, take}
 use lib.Dec.{eqb, leb}
@@ -10,7 +10,7 @@ use Rattle.turn.specs.Turn.{bucketRefusal}
 use Rattle.engine.specs.declared.Floor.{Floor}
 use Rattle.engine.specs.Board.{bucketAt}
 use Rattle.engine.specs.Calls.{recordIn}
-use Rattle.engine.specs.Refusals.{wrongSizes}
+use Rattle.engine.specs.Refusals.{wrongSizes, anyRecord}
 use Rattle.walks.specs.declared.Class.{Class}
 use Rattle.walks.specs.declared.Walked.{Walked}
 use Rattle.walks.specs.declared.Walked.the-variants.{Refusal, Orders}
@@ -20,11 +20,6 @@ use Rattle.walks.specs.Orders.{orders, counted}
 abbrev pub notSmall : Floor → ℕ → Bool
 notSmall f depth = not (leb (f .buckets) 1 && (leb (f .workers) 3 && within 1 24 depth))
 
--- §6.3: whether one of a list of records is broken
-unfoldable pub anyRecordBroken : List Worker → Bool
-anyRecordBroken [] = false
-anyRecordBroken (w ∷ ws) = broken w || anyRecordBroken ws
-
 -- §7.2: the number by which sizes and depth refuse, or 0
 abbrev pub sizeNumber : List ℕ → Floor → ℕ → ℕ → ℕ
 sizeNumber board f listed depth = cond (wrongSizes f board listed) 1 (cond (notSmall f depth) 10 0)
@@ -33,7 +28,7 @@ sizeNumber board f listed depth = cond (wrongSizes f board listed) 1 (cond (notS
 unfoldable pub ordersNumber : List ℕ → Floor → List Worker → ℕ → ℕ → ℕ
 ordersNumber board f records listed depth =
     cond (wrongSizes f board listed) 1
-    (cond (notSmall f depth) 10 (cond (anyRecordBroken records) 3 (bucketRefusal (bucketAt board 0))))
+    (cond (notSmall f depth) 10 (cond (anyRecord broken records) 3 (bucketRefusal (bucketAt board 0))))
 
 -- §18.4: the counts over all orders, or the number alone
 unfoldable pub ordersCall : List ℕ → Floor → List Worker → ℕ → ℕ → Walked

@@ -16,10 +16,11 @@ pub const ORDERS: u8 = 8;
 pub const RETIRE: u8 = 9;
 pub const TOTAL: u8 = 10;
 pub const NEXT: u8 = 11;
+pub const MOVE: u8 = 12;
 
-pub const NAMES: [&str; 12] = [
+pub const NAMES: [&str; 13] = [
     "open", "look", "insert", "remove", "turn", "run", "show", "count", "orders", "retire",
-    "total", "next",
+    "total", "next", "move",
 ];
 
 /// A board of more words counts as one of so many.
@@ -38,7 +39,7 @@ const LONGER: u8 = 247;
 pub struct Case {
     pub call: u8,
     pub floor: Floor,
-    /// For an opening: W. For all orders: the depth. For the next occupied bucket: the one that is asked from.
+    /// For an opening: W. For all orders: the depth. For the next occupied bucket: the one that is asked from. For a move: the new N.
     pub worker: u64,
     /// For an opening: N.
     pub lot: u64,
@@ -47,6 +48,8 @@ pub struct Case {
     pub board: Vec<u64>,
     pub list: List,
     pub index: Vec<u64>,
+    /// For a move: the board that it goes to.
+    pub second: Vec<u64>,
     pub turns: Vec<u8>,
 }
 
@@ -76,6 +79,7 @@ impl Case {
             workers: bytes.number(),
             buckets: bytes.number(),
             last_ticket: bytes.number() as u32,
+            version: bytes.number() as u32,
         };
         Case {
             call,
@@ -86,6 +90,7 @@ impl Case {
             board: bytes.words(MOST_WORDS),
             list: bytes.list(),
             index: bytes.words(MOST_INDEX_WORDS),
+            second: bytes.words(MOST_WORDS),
             turns: bytes.turns(),
         }
     }
@@ -97,6 +102,7 @@ impl Case {
             self.floor.workers,
             self.floor.buckets,
             self.floor.last_ticket.into(),
+            self.floor.version.into(),
             self.worker,
             self.lot,
             self.ticket.into(),
@@ -110,6 +116,7 @@ impl Case {
             push_record(&mut body, &record);
         }
         push_words(&mut body, &self.index);
+        push_words(&mut body, &self.second);
         for (worker, count) in groups(&self.turns, 65_535) {
             body.push(worker);
             body.extend((count as u16).to_be_bytes());
@@ -191,7 +198,7 @@ impl Bytes<'_> {
         (LONGER..first).fold(0, |number, _| number << 8 | u64::from(self.byte()))
     }
 
-    /// The board or the index, of which there are so many words at most.
+    /// A board or the index, of which there are so many words at most.
     fn words(&mut self, most: u64) -> Vec<u64> {
         let length = self.number().min(most) as usize;
         self.grouped(length, Bytes::number)

@@ -7,6 +7,7 @@ mod display;
 mod index;
 pub mod length;
 mod loose;
+mod moving;
 mod orders;
 mod places;
 mod ranges;
@@ -51,6 +52,7 @@ fn round(seed: u64) -> Bodies {
     asleep::make(&mut bodies);
     index::make(&mut bodies);
     display::make(&mut bodies);
+    moving::make(&mut bodies);
     loose::make(&mut bodies);
     bodies
 }

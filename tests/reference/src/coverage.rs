@@ -4,6 +4,7 @@ mod asleep;
 mod broken;
 mod display;
 mod index;
+mod moving;
 mod orders;
 mod places;
 mod points;
@@ -47,6 +48,7 @@ impl Coverage {
         asleep::see(case, outcome, &mut met);
         index::see(case, outcome, &mut met);
         display::see(case, outcome, &mut met);
+        moving::see(case, outcome, &mut met);
         met.sort();
         met.dedup();
         for point in met {

@@ -3,10 +3,11 @@
 use crate::call::Call;
 use crate::index::Index;
 use crate::memory::{Board, Bucket, BUCKET_WORDS};
+use crate::moving::{keeps_back, laid_out, standing};
 use crate::orders::{Walking, Walks};
 use crate::record::{Record, INSERT, NONE};
 use crate::report::{Ran, Report};
-use crate::word::{snap_set_map_and_inc_version, Snapshot, MAP_INVLD};
+use crate::word::{snap_set_map_and_inc_version, MAP_INVLD};
 
 /// A number of refusal.
 pub type Refusal = u8;
@@ -29,6 +30,8 @@ pub struct Floor {
     pub workers: u64,
     pub buckets: u64,
     pub last_ticket: u32,
+    /// The opening's, which every board has that a move comes to.
+    pub version: u32,
 }
 
 /// The lent list: its length may be any number, and then only its first records are there to be seen.
@@ -75,6 +78,7 @@ impl Desk {
             workers: 0,
             buckets: 0,
             last_ticket: 0,
+            version: 0,
         };
         let words = vec![0; BUCKET_WORDS * n.min(MOST_BUCKETS) as usize];
         let list = List {
@@ -91,16 +95,7 @@ impl Desk {
         self.measure(w, n)?;
         self.measure_list(w)?;
         self.measure_index()?;
-        let empty = Snapshot {
-            version,
-            map: [MAP_INVLD; 3],
-            byte_7: 0,
-        };
-        for at in 0..self.board.len() {
-            let is_mark_word = at % BUCKET_WORDS == 0;
-            self.board
-                .set(at, if is_mark_word { empty.snapshot() } else { 0 });
-        }
+        self.board.clear(version);
         self.list.records.fill(Record::idle());
         self.calls.fill_with(|| None);
         self.index = Index::made();
@@ -108,7 +103,33 @@ impl Desk {
             workers: w,
             buckets: n,
             last_ticket: 0,
+            version,
         };
+        Ok(())
+    }
+
+    /// §22: all lots go to a second lent board of `n` buckets, which is the desk's from then on. The one that it
+    /// had stays as it is. Refused by 1, 3, 12, 7 and 13, in this order.
+    pub fn move_to(&mut self, second: &Board, n: u64) -> Result<(), Refusal> {
+        self.measure_all()?;
+        measure_board(second, n)?;
+        if self.list.records.iter().any(Record::is_broken) {
+            return Err(3);
+        }
+        if !self.list.records.iter().all(Record::is_idle) {
+            return Err(12);
+        }
+        if self.board.buckets().any(|bucket| keeps_back(&bucket)) {
+            return Err(7);
+        }
+        let board = laid_out(&standing(&self.board), n, self.floor.version).ok_or(13)?;
+        let words = board.words();
+        for (at, &word) in words.iter().enumerate() {
+            second.set(at, word);
+        }
+        self.board = second.clone();
+        self.index = Index::counted(&words);
+        self.floor.buckets = n;
         Ok(())
     }
 
@@ -255,11 +276,14 @@ impl Desk {
     /// §2.9: a lot that is being inserted is not on the board yet; refused as §7.2 has it.
     pub fn count(&self) -> Result<u64, Refusal> {
         self.measure(self.floor.workers, self.floor.buckets)?;
-        let buckets = || (0..self.floor.buckets as usize).map(|number| self.board.bucket(number));
-        if buckets().any(|bucket| bucket.is_broken()) {
+        if self.board.buckets().any(|bucket| bucket.is_broken()) {
             return Err(7);
         }
-        Ok(buckets().map(|bucket| bucket.valid_slots()).sum())
+        Ok(self
+            .board
+            .buckets()
+            .map(|bucket| bucket.valid_slots())
+            .sum())
     }
 
     /// §21.3: by the index alone, whatever the board is; refused by 1 only.
@@ -308,10 +332,8 @@ impl Desk {
 
     /// §6.1, of what every call is given.
     fn measure(&self, w: u64, n: u64) -> Result<(), Refusal> {
-        let sized = (1..=MOST_WORKERS).contains(&w)
-            && (1..=MOST_BUCKETS).contains(&n)
-            && self.board.len() as u64 == BUCKET_WORDS as u64 * n;
-        sized.then_some(()).ok_or(1)
+        (1..=MOST_WORKERS).contains(&w).then_some(()).ok_or(1)?;
+        measure_board(&self.board, n)
     }
 
     /// §6.1, where a call is given a list.
@@ -354,4 +376,10 @@ impl Desk {
             Manner::Remade => None,
         };
     }
+}
+
+/// §6.1, of a board and its N.
+fn measure_board(board: &Board, n: u64) -> Result<(), Refusal> {
+    let sized = (1..=MOST_BUCKETS).contains(&n) && board.len() as u64 == BUCKET_WORDS as u64 * n;
+    sized.then_some(()).ok_or(1)
 }

@@ -8,6 +8,7 @@ pub mod figures;
 pub mod frame;
 pub mod index;
 pub mod memory;
+pub mod moving;
 pub mod orders;
 pub mod record;
 pub mod report;

@@ -1,6 +1,6 @@
 //! The lent board, and a bucket as the report's `bucket_t` has it.
 
-use crate::word::{snap_set_map, Snapshot};
+use crate::word::{snap_set_map, Snapshot, MAP_INVLD};
 use std::cell::Cell;
 use std::rc::Rc;
 
@@ -40,6 +40,24 @@ impl Board {
         Bucket {
             board: self.clone(),
             number,
+        }
+    }
+
+    /// All that are whole, in their order.
+    pub fn buckets(&self) -> impl Iterator<Item = Bucket> + '_ {
+        (0..self.len() / BUCKET_WORDS).map(|number| self.bucket(number))
+    }
+
+    /// §2.10: every bucket has this version, empty marks and zeros.
+    pub fn clear(&self, version: u32) {
+        let empty = Snapshot {
+            version,
+            map: [MAP_INVLD; 3],
+            byte_7: 0,
+        };
+        for at in 0..self.len() {
+            let is_mark_word = at % BUCKET_WORDS == 0;
+            self.set(at, if is_mark_word { empty.snapshot() } else { 0 });
         }
     }
 }

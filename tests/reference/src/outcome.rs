@@ -3,6 +3,7 @@
 use crate::case::{self, fields, groups, Case};
 use crate::desk::{Desk, Floor, Manner, Refusal};
 use crate::index::Index;
+use crate::memory::Board;
 use crate::orders::Walks;
 use crate::record::Record;
 use crate::report::{Action, Counts, Ran, Report};
@@ -19,6 +20,7 @@ pub enum Answer {
     Orders(Result<Walks, Refusal>),
     Total(Result<u64, Refusal>),
     Next(Result<Option<u64>, Refusal>),
+    Move(Result<(), Refusal>),
 }
 
 impl Answer {
@@ -32,7 +34,8 @@ impl Answer {
             | Answer::Count(Err(number))
             | Answer::Orders(Err(number))
             | Answer::Total(Err(number))
-            | Answer::Next(Err(number)) => *number,
+            | Answer::Next(Err(number))
+            | Answer::Move(Err(number)) => *number,
             _ => 0,
         }
     }
@@ -45,11 +48,23 @@ pub type Told = (u8, Record, Report);
 pub struct Outcome {
     pub answer: Answer,
     pub floor: Floor,
+    /// The one that the call was given; of a move that is the old one.
     pub board: Vec<u64>,
     pub records: Vec<Record>,
     pub index: Vec<u64>,
+    pub second: Vec<u64>,
     /// The turns of a run one by one; no part of the line.
     pub told: Vec<Told>,
+}
+
+impl Outcome {
+    /// The board that the next call is given: after a move that was done it is the new one.
+    pub fn next_board(&self) -> Vec<u64> {
+        match self.answer {
+            Answer::Move(Ok(())) => self.second.clone(),
+            _ => self.board.clone(),
+        }
+    }
 }
 
 /// The desk that a case brings.
@@ -67,19 +82,21 @@ pub fn brought(case: &Case) -> Desk {
 /// Does the case's call on what the case brings.
 pub fn outcome(case: &Case) -> Outcome {
     let mut desk = brought(case);
+    let (board, second) = (desk.board.clone(), Board::of(&case.second));
     let mut told = Vec::new();
-    let answer = call(case, &mut desk, &mut told);
+    let answer = call(case, &mut desk, &second, &mut told);
     Outcome {
         answer,
         floor: desk.floor,
-        board: desk.board.words(),
+        board: board.words(),
         records: desk.list.records,
         index: desk.index.0,
+        second: second.words(),
         told,
     }
 }
 
-fn call(case: &Case, desk: &mut Desk, told: &mut Vec<Told>) -> Answer {
+fn call(case: &Case, desk: &mut Desk, second: &Board, told: &mut Vec<Told>) -> Answer {
     let &Case {
         worker,
         lot,
@@ -103,21 +120,26 @@ fn call(case: &Case, desk: &mut Desk, told: &mut Vec<Told>) -> Answer {
         case::ORDERS => Answer::Orders(desk.orders(worker)),
         case::RETIRE => Answer::Alone(desk.retire(worker)),
         case::TOTAL => Answer::Total(desk.total()),
-        _ => Answer::Next(desk.next_occupied(worker)),
+        case::NEXT => Answer::Next(desk.next_occupied(worker)),
+        _ => Answer::Move(desk.move_to(second, worker)),
     }
 }
 
 /// The line of a case, with its LF.
 pub fn line(case: &Case, outcome: &Outcome) -> String {
     let mut line = String::from(case::NAMES[case.call as usize]);
-    push_answer(&mut line, &outcome.answer);
+    push_answer(&mut line, outcome);
     let Floor {
         workers,
         buckets,
         last_ticket,
+        version,
     } = outcome.floor;
     push(&mut line, format_args!("|"));
-    push_numbers(&mut line, &[workers, buckets, last_ticket.into()]);
+    push_numbers(
+        &mut line,
+        &[workers, buckets, last_ticket.into(), version.into()],
+    );
     push(&mut line, format_args!("|"));
     push_words(&mut line, &outcome.board);
     push(&mut line, format_args!("|"));
@@ -132,9 +154,9 @@ pub fn line(case: &Case, outcome: &Outcome) -> String {
     line
 }
 
-fn push_answer(line: &mut String, answer: &Answer) {
-    let number = u64::from(answer.number());
-    match answer {
+fn push_answer(line: &mut String, outcome: &Outcome) {
+    let number = u64::from(outcome.answer.number());
+    match &outcome.answer {
         Answer::Alone(_) => push_numbers(line, &[number]),
         Answer::Turn(turn) => {
             push_numbers(line, &[number]);
@@ -169,6 +191,11 @@ fn push_answer(line: &mut String, answer: &Answer) {
                 line,
                 &[number, bucket.is_some().into(), bucket.unwrap_or(0)],
             );
+        }
+        Answer::Move(_) => {
+            push_numbers(line, &[number]);
+            push(line, format_args!("|"));
+            push_words(line, &outcome.second);
         }
     }
 }

@@ -1,6 +1,6 @@
 //! Cases: written and read back, the lines of the format's own examples, and the stored ones as a whole.
 
-use reference::case::{pieces, with_length, Case, NEXT, OPEN, RETIRE, TOTAL};
+use reference::case::{pieces, with_length, Case, MOVE, NEXT, OPEN, RETIRE, TOTAL};
 use reference::desk::{Floor, List};
 use reference::outcome::{line, lines, outcome, Answer};
 use reference::record::{Record, INSERT, LOOK, NONE};
@@ -28,6 +28,8 @@ fn numbers_read_back() {
             case.floor.workers = number;
             case.board = vec![number, number, 0];
             case.index = vec![0, number, number, number, 1, 0];
+            case.second = vec![0, 0, number, 9];
+            case.floor.version = number as u32;
             assert_eq!(read_back(&case), case);
         }
     }
@@ -41,6 +43,7 @@ fn missing_bytes_are_0() {
             workers: 0,
             buckets: 0,
             last_ticket: 0,
+            version: 0,
         },
         worker: 0,
         lot: 0,
@@ -51,32 +54,36 @@ fn missing_bytes_are_0() {
             records: vec![],
         },
         index: vec![],
+        second: vec![],
         turns: vec![],
     };
     assert_eq!(Case::read(&[]), empty);
-    assert_eq!(Case::read(&[12]), empty);
-    assert_eq!(Case::read(&[21]).call, RETIRE);
-    assert_eq!(Case::read(&[22]).call, TOTAL);
-    assert_eq!(Case::read(&[23]).call, NEXT);
-    assert_eq!(Case::read(&[252]).call, OPEN);
-    let words = Case::read(&[0, 0, 0, 0, 0, 0, 0, 3, 0, 5]);
+    assert_eq!(Case::read(&[13]), empty);
+    assert_eq!(Case::read(&[22]).call, RETIRE);
+    assert_eq!(Case::read(&[23]).call, TOTAL);
+    assert_eq!(Case::read(&[24]).call, NEXT);
+    assert_eq!(Case::read(&[25]).call, MOVE);
+    assert_eq!(Case::read(&[247]).call, OPEN);
+    let words = Case::read(&[0, 0, 0, 0, 0, 0, 0, 0, 3, 0, 5]);
     assert_eq!(words.board, vec![5, 0, 0]);
 }
 
 /// Sizes past the format's bounds, and numbers past a field's.
 #[test]
 fn bounds_of_the_format() {
-    let case = Case::read(&[0, 0, 0, 252, 1, 0, 0, 0, 9, 0, 0, 0, 249, 255, 255, 255, 7]);
-    assert_eq!(case.floor.last_ticket, 9);
+    let numbers = [0, 0, 0, 252, 1, 0, 0, 0, 9, 252, 2, 0, 0, 0, 8, 0, 0, 0];
+    let case = Case::read(&[&numbers[..], &[249, 255, 255, 255, 7]].concat());
+    assert_eq!((case.floor.last_ticket, case.floor.version), (9, 8));
     assert_eq!(case.board.len(), 2_064);
     assert_eq!(case.board[..257], [vec![7; 256], vec![0]].concat());
-    let mut body = vec![0; 8];
+    // call, floor, numbers, board: the list
+    let mut body = vec![0; 9];
     body.extend([249, 255, 255, 255, 249, 1, 2]);
     let list = Case::read(&body).list;
     assert_eq!((list.length, list.records.len()), (320, 320));
     assert_eq!((list.records[255].kind, list.records[256].kind), (2, 0));
     // of the last number of a record the lowest four bytes
-    let mut body = vec![0; 8];
+    let mut body = vec![0; 9];
     body.extend([1, 0, 0, 0, 0, 0, 0, 0, 3, 0, 252, 9, 255, 255, 255, 254]);
     let records = Case::read(&body).list.records;
     let asleep = u32::MAX - 1;
@@ -87,21 +94,27 @@ fn bounds_of_the_format() {
             ..Record::idle()
         }]
     );
-    // call, floor, numbers, board, list: the index, and the turns behind it
-    let mut body = vec![0; 9];
-    body.extend([14, 1, 7, 255, 9, 3, 0, 2]);
+    // call, floor, numbers, board, list: the index, the second board, and the turns behind it
+    let mut body = vec![0; 10];
+    body.extend([14, 1, 7, 255, 9, 3, 1, 4, 255, 5, 3, 0, 2]);
     let case = Case::read(&body);
     assert_eq!(case.index, [vec![7; 2], vec![9; 11]].concat());
+    assert_eq!(case.second, [4, 4, 5]);
     assert_eq!(case.turns, [3, 3]);
-    let mut body = vec![0; 9];
+    let mut body = vec![0; 10];
     body.extend([249, 255, 255, 0, 249, 1, 2, 3]);
     assert_eq!(Case::read(&body).index, [vec![0x102], vec![0; 12]].concat());
-    let mut body = vec![0; 10];
+    let mut body = vec![0; 11];
+    body.extend([249, 255, 255, 255, 6]);
+    let second = Case::read(&body).second;
+    assert_eq!(second.len(), 2_064);
+    assert_eq!(second[..257], [vec![6; 256], vec![0]].concat());
+    let mut body = vec![0; 12];
     body.extend([1, 0, 2, 3, 255, 255, 4, 255, 255, 5, 1]);
     let turns = Case::read(&body).turns;
     assert_eq!(turns.len(), 65_540);
     assert_eq!((turns[1], turns[2], turns[65_537]), (1, 3, 4));
-    body.truncate(15);
+    body.truncate(17);
     assert_eq!(Case::read(&body).turns.len(), 2 + 0xff00);
 }
 
@@ -111,7 +124,7 @@ fn streams() {
     let bodies: Vec<&[u8]> = pieces(&stream).map(|piece| &piece[2..]).collect();
     assert_eq!(bodies, [&[4, 1][..], &[], &[6, 1]]);
     assert_eq!(pieces(&[0]).count(), 0);
-    assert_eq!(lines(&[0, 0, 0]), "open 1 | 0 0 0 | | |\n");
+    assert_eq!(lines(&[0, 0, 0]), "open 1 | 0 0 0 0 | | |\n");
 }
 
 fn opened(call: u8, w: u64) -> Case {
@@ -137,7 +150,7 @@ fn lines_of_the_format() {
     (insert.lot, insert.ticket) = (7, 1);
     assert_eq!(
         line_of(&insert),
-        "insert 0 | 2 1 1 | 0*8 | 2.1.7.1.0.0.3.0.0 0.0.0.0.0.0.3.0.0 | 0*5\n"
+        "insert 0 | 2 1 1 0 | 0*8 | 2.1.7.1.0.0.3.0.0 0.0.0.0.0.0.3.0.0 | 0*5\n"
     );
     let mut turn = opened(4, 1);
     turn.floor.last_ticket = 1;
@@ -155,7 +168,7 @@ fn lines_of_the_format() {
     };
     assert_eq!(
         line_of(&turn),
-        "turn 0 3 1 1 0 0 200000000 100000001 | 1 1 1 | 100000001 7 0*2 1 0*3 | 0.0.0.0.0.0.3.0.0 | 1*2 0*3\n"
+        "turn 0 3 1 1 0 0 200000000 100000001 | 1 1 1 0 | 100000001 7 0*2 1 0*3 | 0.0.0.0.0.0.3.0.0 | 1*2 0*3\n"
     );
     let twice = Case {
         call: 5,
@@ -164,19 +177,19 @@ fn lines_of_the_format() {
     };
     assert_eq!(
         line_of(&twice),
-        "run 6 1 1 0 0 3 1 1 0 0 200000000 100000001 | 1 1 1 | 100000001 7 0*2 1 0*3 | 0.0.0.0.0.0.3.0.0 | 1*2 0*3\n"
+        "run 6 1 1 0 0 3 1 1 0 0 200000000 100000001 | 1 1 1 0 | 100000001 7 0*2 1 0*3 | 0.0.0.0.0.0.3.0.0 | 1*2 0*3\n"
     );
     assert_eq!(
         line_of(&opened(4, 1)),
-        "turn 6 0 0 0 0 0 0 0 | 1 1 0 | 0*8 | 0.0.0.0.0.0.3.0.0 | 0*5\n"
+        "turn 6 0 0 0 0 0 0 0 | 1 1 0 0 | 0*8 | 0.0.0.0.0.0.3.0.0 | 0*5\n"
     );
     assert_eq!(
         line_of(&opened(5, 1)),
-        "run 0 0 0 0 0 1 0 0 0 0 0 0 | 1 1 0 | 0*8 | 0.0.0.0.0.0.3.0.0 | 0*5\n"
+        "run 0 0 0 0 0 1 0 0 0 0 0 0 | 1 1 0 0 | 0*8 | 0.0.0.0.0.0.3.0.0 | 0*5\n"
     );
     assert_eq!(
         line_of(&opened(6, 1)),
-        "show 0 0 | 0*8 | 1 1 0 | 0*8 | 0.0.0.0.0.0.3.0.0 | 0*5\n"
+        "show 0 0 | 0*8 | 1 1 0 0 | 0*8 | 0.0.0.0.0.0.3.0.0 | 0*5\n"
     );
     let mut beside = opened(4, 3);
     let look = Record {
@@ -189,18 +202,18 @@ fn lines_of_the_format() {
     beside.list.records = vec![look, others[0], others[1]];
     assert_eq!(
         line_of(&beside),
-        "turn 0 1 0 0 0 0 0 0 | 3 1 0 | 0*8 | 1.3.7.0.0.0.3.0.0 1.2.7.0.0.0.3.0.a 1.2.7.0.0.0.3.0.ffffffff | 0*5\n"
+        "turn 0 1 0 0 0 0 0 0 | 3 1 0 0 | 0*8 | 1.3.7.0.0.0.3.0.0 1.2.7.0.0.0.3.0.a 1.2.7.0.0.0.3.0.ffffffff | 0*5\n"
     );
     let mut orders = opened(8, 2);
     assert_eq!(
         line_of(&orders),
-        "orders a 0 0 0 0 | 2 1 0 | 0*8 | 0.0.0.0.0.0.3.0.0*2 | 0*5\n"
+        "orders a 0 0 0 0 | 2 1 0 0 | 0*8 | 0.0.0.0.0.0.3.0.0*2 | 0*5\n"
     );
     orders.worker = 24;
     orders.list.records.fill(look);
     assert_eq!(
         line_of(&orders),
-        "orders 0 39c 0 0 0 | 2 1 0 | 0*8 | 1.2.7.0.0.0.3.0.0*2 | 0*5\n"
+        "orders 0 39c 0 0 0 | 2 1 0 0 | 0*8 | 1.2.7.0.0.0.3.0.0*2 | 0*5\n"
     );
     let retire = Case {
         call: RETIRE,
@@ -208,11 +221,11 @@ fn lines_of_the_format() {
     };
     assert_eq!(
         line_of(&retire),
-        "retire 0 | 1 1 1 | 1 7 0*2 1 0*3 | 0.0.0.0.0.0.3.0.0 | 0*5\n"
+        "retire 0 | 1 1 1 0 | 1 7 0*2 1 0*3 | 0.0.0.0.0.0.3.0.0 | 0*5\n"
     );
     assert_eq!(
         line_of(&opened(9, 1)),
-        "retire 6 | 1 1 0 | 0*8 | 0.0.0.0.0.0.3.0.0 | 0*5\n"
+        "retire 6 | 1 1 0 0 | 0*8 | 0.0.0.0.0.0.3.0.0 | 0*5\n"
     );
 }
 
@@ -230,30 +243,30 @@ fn lines_with_an_index() {
         (u64::MAX, "next 0 0 0"),
     ] {
         next.worker = from;
-        let rest = " | 1 100 0 | 0*800 | 0.0.0.0.0.0.3.0.0 | 2 0 1 0 8\n";
+        let rest = " | 1 100 0 0 | 0*800 | 0.0.0.0.0.0.3.0.0 | 2 0 1 0 8\n";
         assert_eq!(line_of(&next), [line, rest].concat());
     }
     let mut total = opened(10, 1);
     total.index = vec![u64::MAX, 0, 0, 0, 0];
     assert_eq!(
         line_of(&total),
-        "total 0 ffffffffffffffff | 1 1 0 | 0*8 | 0.0.0.0.0.0.3.0.0 | ffffffffffffffff 0*4\n"
+        "total 0 ffffffffffffffff | 1 1 0 0 | 0*8 | 0.0.0.0.0.0.3.0.0 | ffffffffffffffff 0*4\n"
     );
     total.index.pop();
     assert_eq!(
         line_of(&total),
-        "total 1 0 | 1 1 0 | 0*8 | 0.0.0.0.0.0.3.0.0 | ffffffffffffffff 0*3\n"
+        "total 1 0 | 1 1 0 0 | 0*8 | 0.0.0.0.0.0.3.0.0 | ffffffffffffffff 0*3\n"
     );
     total.call = NEXT;
     assert_eq!(
         line_of(&total),
-        "next 1 0 0 | 1 1 0 | 0*8 | 0.0.0.0.0.0.3.0.0 | ffffffffffffffff 0*3\n"
+        "next 1 0 0 | 1 1 0 0 | 0*8 | 0.0.0.0.0.0.3.0.0 | ffffffffffffffff 0*3\n"
     );
     let mut look = opened(1, 1);
     look.index.clear();
     assert_eq!(
         line_of(&look),
-        "look 0 | 1 1 0 | 0*8 | 1.2.0.0.0.0.3.0.0 |\n"
+        "look 0 | 1 1 0 0 | 0*8 | 1.2.0.0.0.0.3.0.0 |\n"
     );
     let mut turn = Case { call: 4, ..look };
     turn.list.records[0] = Record {
@@ -264,13 +277,55 @@ fn lines_with_an_index() {
     turn.index = vec![0, 1, 0, 0, 0];
     assert_eq!(
         line_of(&turn),
-        "turn b 0 0 0 0 0 0 0 | 1 1 0 | 0*8 | 1.2.0.0.0.0.3.0.0 | 0 1 0*3\n"
+        "turn b 0 0 0 0 0 0 0 | 1 1 0 0 | 0*8 | 1.2.0.0.0.0.3.0.0 | 0 1 0*3\n"
     );
     turn.index[0] = 1;
     (turn.call, turn.turns) = (5, vec![0]);
     assert_eq!(
         line_of(&turn),
-        "run b 0 0 0 0 1 0 0 0 0 0 0 | 1 1 0 | 0*8 | 1.2.0.0.0.0.3.0.0 | 1*2 0*3\n"
+        "run b 0 0 0 0 1 0 0 0 0 0 0 | 1 1 0 0 | 0*8 | 1.2.0.0.0.0.3.0.0 | 1*2 0*3\n"
+    );
+}
+
+/// The floor's version, from an opening on, and the new board of a move.
+#[test]
+fn lines_with_a_version() {
+    let mut open = opened(0, 1);
+    (open.worker, open.lot, open.ticket) = (1, 1, u32::MAX);
+    open.floor.version = 9;
+    assert_eq!(
+        line_of(&open),
+        "open 0 | 1 1 0 ffffffff | ffffffff 0*7 | 0.0.0.0.0.0.3.0.0 | 0*5\n"
+    );
+    open.worker = 0;
+    assert_eq!(
+        line_of(&open),
+        "open 1 | 1 1 0 9 | 0*8 | 0.0.0.0.0.0.3.0.0 | 0*5\n"
+    );
+    let mut moving = opened(MOVE, 1);
+    (moving.floor.last_ticket, moving.floor.version) = (6, 5);
+    moving.board = vec![0x1_0001_0000_0007, 9, 8, 7, 6, 5, 4, 0];
+    moving.worker = 2;
+    moving.second = vec![3; 16];
+    assert_eq!(
+        line_of(&moving),
+        "move 0 | 5 0*7 10100000005 9 7 0 6 4 0*2 | 1 2 6 5 | 1000100000007 9 8 7 6 5 4 0 | 0.0.0.0.0.0.3.0.0 | 2*2 0*3\n"
+    );
+    moving.worker = 1;
+    assert_eq!(
+        line_of(&moving),
+        "move 1 | 3*10 | 1 1 6 5 | 1000100000007 9 8 7 6 5 4 0 | 0.0.0.0.0.0.3.0.0 | 0*5\n"
+    );
+    moving.second.clear();
+    assert_eq!(
+        line_of(&moving),
+        "move 1 | | 1 1 6 5 | 1000100000007 9 8 7 6 5 4 0 | 0.0.0.0.0.0.3.0.0 | 0*5\n"
+    );
+    moving.board[0] = 0x2_0001_0000_0007;
+    moving.second = vec![3; 8];
+    assert_eq!(
+        line_of(&moving),
+        "move 7 | 3*8 | 1 1 6 5 | 2000100000007 9 8 7 6 5 4 0 | 0.0.0.0.0.0.3.0.0 | 0*5\n"
     );
 }
 
@@ -284,6 +339,7 @@ fn a_refused_call_changes_nothing() {
             assert_eq!(came.board, case.board);
             assert_eq!(came.records, case.list.records);
             assert_eq!(came.index, case.index);
+            assert_eq!(came.second, case.second);
         }
     }
 }
@@ -354,8 +410,8 @@ fn the_stored_cases_meet_every_point() {
     assert_eq!(stored.coverage.unmet(), Vec::<String>::new());
     assert_eq!(lines(&stored.stream), stored.lines);
     assert!(stored.lines.lines().count() >= 5_000);
-    // a mebibyte and seven eighths
-    assert!(stored.stream.len() + stored.lines.len() < 15 << 17);
+    // two mebibytes and three eighths
+    assert!(stored.stream.len() + stored.lines.len() < 19 << 17);
 }
 
 #[test]

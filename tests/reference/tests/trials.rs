@@ -262,6 +262,7 @@ fn bare(words: usize, records: u64) -> Desk {
         workers: 1,
         buckets: 1,
         last_ticket: 0,
+        version: 0,
     };
     let list = List {
         length: records,

@@ -54,6 +54,12 @@ returns-2 c =
     let k = m .before .before in
     absurd (no-other _ _ (first-field _ _ _ (read-at k _ refl)) (m .match2 .keys2))
 
+refused-requires-3 : tie.Need-refused-requires-3
+refused-requires-3 c κs =
+    let f = c .before .before .before .before .before .before .before .before .before in
+    let s = f .before .before .before .before .before .before .before .before .before in
+    (search needs, omega (arith, s .pre .1))
+
 -- the engine laid out a floor, or refused it
 returns-3 : tie.Need-returns-3
 returns-3 c =
@@ -87,5 +93,5 @@ fields-spec =
     (tie.spec
     (λ c κs. search needs) (λ c. search needs) (λ c. search needs) (λ c κs. search needs) refused-requires (λ c. search needs) returns
     (λ c. search needs) (λ c κs. search needs) (λ c. search needs) returns-2
-    (λ c κs. search needs) (λ c κs. search needs) (λ c κs. search needs) (λ c. search needs) (λ c. search needs) returns-3
+    (λ c κs. search needs) (λ c κs. search needs) refused-requires-3 (λ c. search needs) (λ c. search needs) returns-3
     later-fields-requires (λ c. search needs) (λ c. search needs) returns-4)

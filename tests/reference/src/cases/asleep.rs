@@ -328,6 +328,7 @@ fn the_sleeper(bodies: &mut Bodies) {
             board: desk.board.words(),
             list: desk.list.clone(),
             index: desk.index.0.clone(),
+            second: Vec::new(),
             turns: vec![1; 5],
         });
     }

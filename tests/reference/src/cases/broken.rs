@@ -2,7 +2,7 @@
 
 use super::build::{places, set_bucket};
 use super::Bodies;
-use crate::case::{COUNT, INSERT, LOOK, ORDERS, REMOVE, RETIRE, RUN, SHOW, TURN};
+use crate::case::{COUNT, INSERT, LOOK, MOVE, ORDERS, REMOVE, RETIRE, RUN, SHOW, TURN};
 use crate::memory::BUCKET_WORDS;
 use crate::random::Random;
 use crate::record::{Record, NONE};
@@ -11,7 +11,7 @@ use crate::word::Snapshot;
 pub fn make(bodies: &mut Bodies) {
     for record in broken_records(&mut bodies.random) {
         let start = bodies.random.pick(&[LOOK, INSERT, REMOVE]);
-        for call in [start, TURN, RUN, ORDERS, RETIRE] {
+        for call in [start, TURN, RUN, ORDERS, RETIRE, MOVE] {
             with_record(bodies, call, record);
         }
         beside(bodies, record);
@@ -30,11 +30,11 @@ pub fn make(bodies: &mut Bodies) {
     elsewhere(bodies);
 }
 
-/// The call on a worker with this record. All orders is on every worker, so there it can be any.
+/// The call on a worker with this record. All orders and a move are on every worker, so there it can be any.
 fn with_record(bodies: &mut Bodies, call: u8, record: Record) {
     let mut case = bodies.random.sound(call);
     let worker = match call {
-        ORDERS => bodies.random.below(case.floor.workers),
+        ORDERS | MOVE => bodies.random.below(case.floor.workers),
         _ => case.worker,
     };
     case.list.records[worker as usize] = record;
@@ -180,7 +180,7 @@ fn broken_words(random: &mut Random, records: &mut Vec<Record>) {
 
 /// A way to break a bucket: a byte of the mark word, or at 8 the spare word.
 #[derive(Clone, Copy)]
-struct Spoil {
+pub struct Spoil {
     at: usize,
     with: u64,
 }
@@ -189,7 +189,7 @@ const fn spoil(at: usize, with: u64) -> Spoil {
     Spoil { at, with }
 }
 
-const BUCKETS: [Spoil; 19] = [
+pub const BUCKETS: [Spoil; 19] = [
     spoil(4, 3),
     spoil(4, 4),
     spoil(4, 128),
@@ -222,12 +222,17 @@ impl Spoil {
         s.snapshot()
     }
 
-    fn bucket(self, random: &mut Random) -> [u64; BUCKET_WORDS] {
-        let mut words = random.bucket();
+    /// The bucket, spoilt.
+    pub fn spoil(self, words: &mut [u64]) {
         match self.at {
             8 => words[7] = self.with,
             _ => words[0] = self.word(words[0]),
         }
+    }
+
+    fn bucket(self, random: &mut Random) -> [u64; BUCKET_WORDS] {
+        let mut words = random.bucket();
+        self.spoil(&mut words);
         words
     }
 }

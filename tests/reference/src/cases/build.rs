@@ -4,9 +4,10 @@ use crate::case::{self, Case};
 use crate::desk::{Floor, List, MOST_DEPTH, SMALL_BUCKETS};
 use crate::index::Index;
 use crate::memory::BUCKET_WORDS;
+use crate::outcome::outcome;
 use crate::random::Random;
 use crate::record::{Record, INSERT, LOOK, NONE, REMOVE};
-use crate::word::Snapshot;
+use crate::word::{Snapshot, MAP_INVLD, MAP_VALID};
 
 /// Numbers at the ends of bytes, half words, words and the number format.
 pub const EDGES: [u64; 12] = [
@@ -168,6 +169,7 @@ impl Random {
                 workers: w,
                 buckets: n,
                 last_ticket: self.below(9) as u32,
+                version: self.version(),
             },
             worker,
             lot: self.value(),
@@ -175,6 +177,7 @@ impl Random {
             board: self.board(n),
             list: List { length: w, records },
             index: Vec::new(),
+            second: Vec::new(),
             turns: Vec::new(),
         };
         self.fit(&mut case);
@@ -202,7 +205,25 @@ impl Random {
             }
             case::ORDERS => case.worker = self.depth(),
             case::NEXT => case.worker = self.below(case.floor.buckets + 2),
+            case::MOVE => {
+                case.list.records.fill(Record::idle());
+                let n = self.pick(&[1, 2, 2, 3, 3, 4, 5, case.floor.buckets]);
+                self.go_to(case, n);
+                settle(case);
+            }
             _ => (),
+        }
+    }
+
+    /// A move goes to so many buckets, on a board that is filled with anything.
+    pub fn go_to(&mut self, case: &mut Case, n: u64) {
+        case.worker = n;
+        case.second = vec![self.value(); BUCKET_WORDS * n as usize];
+        let start = BUCKET_WORDS * self.below(n) as usize;
+        case.second[start..start + BUCKET_WORDS].copy_from_slice(&self.bucket());
+        // a large board is mostly zeros, so that its lines stay short
+        if n > 5 {
+            case.floor.version = 0;
         }
     }
 
@@ -240,6 +261,33 @@ pub fn set_bucket(case: &mut Case, lot: u64, bucket: [u64; BUCKET_WORDS]) {
     let start = BUCKET_WORDS * (lot % case.floor.buckets) as usize;
     case.board[start..start + BUCKET_WORDS].copy_from_slice(&bucket);
     count_index(case);
+}
+
+/// What keeps a move back is taken off the board: a mark 2 becomes 1, and what would be the fourth lot of its new bucket is no lot.
+pub fn settle(case: &mut Case) {
+    let n = case.worker;
+    let mut lots = vec![0; n as usize];
+    for bucket in case.board.chunks_mut(BUCKET_WORDS) {
+        let mut word = Snapshot::of(bucket[0]);
+        for slot in 0..3 {
+            let before = &mut lots[(bucket[1 + slot] % n) as usize];
+            word.map[slot] = match (word.map[slot], *before) {
+                (MAP_INVLD, _) | (_, 3) => MAP_INVLD,
+                _ => MAP_VALID,
+            };
+            *before += u64::from(word.map[slot]);
+        }
+        bucket[0] = word.snapshot();
+    }
+}
+
+/// The case stands on what it has left itself: floor, board, records and index.
+pub fn leave(case: &mut Case) {
+    let after = outcome(case);
+    case.board = after.next_board();
+    case.floor = after.floor;
+    case.list.records = after.records;
+    case.index = after.index;
 }
 
 /// A bucket's bit of the index becomes the other.

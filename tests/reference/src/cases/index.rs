@@ -6,7 +6,7 @@ mod runs;
 use super::build::{flip_bit, mark_word, places, set_bucket};
 use super::refusals::{break_bucket, refute_index, spoil_size};
 use super::Bodies;
-use crate::case::{Case, COUNT, INSERT, LOOK, NEXT, OPEN, ORDERS, REMOVE, RETIRE, RUN, SHOW, TURN};
+use crate::case::{Case, COUNT, INSERT, LOOK, MOVE, OPEN, ORDERS, REMOVE, RETIRE, RUN, SHOW, TURN};
 use crate::index::INDEX_WORDS;
 use crate::random::Random;
 use crate::record::{Record, NONE};
@@ -112,7 +112,7 @@ fn set_other_bits(case: &mut Case, bucket: u64) {
 /// §6.1: an index of no words, of too few and of too many, for every call; where it is refused by that, also with another reason besides.
 fn lengths(bodies: &mut Bodies) {
     for length in [0, 4, 6, 13] {
-        for call in OPEN..=NEXT {
+        for call in OPEN..=MOVE {
             let mut case = bodies.random.sound(call);
             case.index.resize(length, 0);
             bodies.push(case);

@@ -1,14 +1,13 @@
 //! Random cases: histories on opened boards, sound states with one thing spoilt, and bytes of any sort.
 
-use super::build::{count_index, flip_bit, EDGES};
+use super::build::{count_index, flip_bit, leave, EDGES};
 use super::length::shorten;
 use super::Bodies;
 use crate::case::{
-    Case, COUNT, INSERT, LOOK, NEXT, OPEN, ORDERS, REMOVE, RETIRE, RUN, SHOW, TOTAL, TURN,
+    Case, COUNT, INSERT, LOOK, MOVE, NEXT, OPEN, ORDERS, REMOVE, RETIRE, RUN, SHOW, TOTAL, TURN,
 };
 use crate::desk::{Floor, List};
 use crate::index::INDEX_WORDS;
-use crate::outcome::outcome;
 use crate::random::Random;
 use crate::record::{Record, NONE};
 use crate::word::MAP_VALID;
@@ -47,11 +46,7 @@ fn history(bodies: &mut Bodies) {
         if step >= from || step == 0 {
             bodies.push(case.clone());
         }
-        let after = outcome(&case);
-        case.floor = after.floor;
-        case.board = after.board;
-        case.list.records = after.records;
-        case.index = after.index;
+        leave(&mut case);
         next_call(&mut bodies.random, &mut case, lots);
         shorten(&mut case);
     }
@@ -69,6 +64,7 @@ fn opening(random: &mut Random) -> Case {
             workers: 0,
             buckets: 0,
             last_ticket: 0,
+            version: 0,
         },
         worker: w,
         lot: n,
@@ -79,24 +75,28 @@ fn opening(random: &mut Random) -> Case {
             records: vec![Record::idle(); w as usize],
         },
         index: any_words.to_vec(),
+        second: Vec::new(),
         turns: Vec::new(),
     }
 }
 
 /// Chooses what is called next: mostly a turn of a worker that is busy, or a start of one that is idle. Who holds a slot is retired at
-/// times, and who holds none is seldom.
+/// times, and who holds none is seldom. Between rounds the board is often another.
 fn next_call(random: &mut Random, case: &mut Case, lots: &[u64]) {
     let w = case.floor.workers;
     case.turns.clear();
+    case.second.clear();
     case.worker = random.below(w);
     case.lot = random.pick(lots);
     case.ticket = case.floor.last_ticket.saturating_add(1);
     let record = case.list.records[case.worker as usize];
     let idle = record.is_idle();
+    let all_idle = case.list.records.iter().all(Record::is_idle);
     case.call = match random.below(40) {
         0 => random.pick(&[SHOW, TOTAL]),
         1 => random.pick(&[COUNT, ORDERS, NEXT]),
-        2 => random.pick(&[LOOK, INSERT, REMOVE, TURN, RETIRE]),
+        2 => random.pick(&[LOOK, INSERT, REMOVE, TURN, RETIRE, MOVE]),
+        10.. if all_idle && random.once_in(4) => MOVE,
         8 | 9 if record.held != NONE => RETIRE,
         8 if !idle && random.once_in(4) => RETIRE,
         3..=7 => RUN,
@@ -115,6 +115,14 @@ fn next_call(random: &mut Random, case: &mut Case, lots: &[u64]) {
     if case.call == NEXT {
         case.worker = random.pick(&[0, 0, 1, 63, 64, case.floor.buckets]);
     }
+    if case.call == MOVE {
+        let sizes: &[u64] = match case.floor.version {
+            0 => &[1, 1, 2, 2, 3, 65, 256],
+            _ => &[1, 1, 2, 2, 3],
+        };
+        let n = random.pick(sizes);
+        random.go_to(case, n);
+    }
     if case.call == RUN {
         for _ in 0..1 + random.below(4) {
             let worker = random.below(w) as u8;
@@ -128,7 +136,7 @@ fn next_call(random: &mut Random, case: &mut Case, lots: &[u64]) {
 fn spoilt(random: &mut Random) -> Case {
     let call = random.pick(&[
         OPEN, LOOK, INSERT, REMOVE, TURN, TURN, TURN, TURN, TURN, RUN, RUN, SHOW, COUNT, ORDERS,
-        RETIRE, RETIRE, TOTAL, NEXT,
+        RETIRE, RETIRE, TOTAL, NEXT, MOVE, MOVE,
     ]);
     let mut case = random.sound(call);
     let edge = random.pick(&EDGES);
@@ -136,7 +144,10 @@ fn spoilt(random: &mut Random) -> Case {
         0 => spoil_sizes(random, &mut case),
         1 => case.worker = edge,
         2 => case.ticket = edge as u32,
-        3 => case.floor.last_ticket = edge as u32,
+        3 => match random.once_in(2) {
+            true => case.floor.last_ticket = edge as u32,
+            false => case.floor.version = edge as u32,
+        },
         4 | 5 => {
             spoil_word(random, &mut case.board);
             // else the index tells of the mark that was there
@@ -158,11 +169,12 @@ fn spoilt(random: &mut Random) -> Case {
 
 fn spoil_sizes(random: &mut Random, case: &mut Case) {
     let edge = random.pick(&EDGES);
-    match random.below(5) {
+    match random.below(6) {
         0 => case.floor.workers = edge,
         1 => case.floor.buckets = edge,
         2 => case.board.resize(random.below(26) as usize, 0),
         3 => case.index.resize(random.below(9) as usize, 0),
+        4 => case.second.resize(random.below(26) as usize, 0),
         _ => super::build::set_list(case, edge),
     }
 }
@@ -234,7 +246,7 @@ fn likely(random: &mut Random) -> Vec<u8> {
         ORDERS => random.below(26) as u8,
         _ => 0,
     };
-    let mut body = vec![call, 1, 1, random.below(4) as u8, worker, 0, 0, 8];
+    let mut body = vec![call, 1, 1, random.below(4) as u8, 0, worker, 0, 0, 8];
     let marks = [random.slot(), random.slot(), random.slot()];
     // the mark word in its long form, and the other words in short groups
     body.extend([0, 254, marks[0], marks[1], marks[2], 0, 0, 0, 0]);
@@ -256,7 +268,8 @@ fn likely(random: &mut Random) -> Vec<u8> {
         false => (valid, valid.min(1)),
     };
     body.extend([5, 0, total, 0, bits, 2, 0]);
-    body.extend([0, 0, 1 + random.below(20) as u8]);
+    // no second board, and the turns
+    body.extend([0, 0, 0, 1 + random.below(20) as u8]);
     body
 }
 

@@ -151,6 +151,7 @@ fn class(bodies: &mut Bodies, w: u64, events: &[Event]) -> Case {
         board: desk.board.words(),
         list: desk.list,
         index: desk.index.0,
+        second: Vec::new(),
         turns: Vec::new(),
     }
 }

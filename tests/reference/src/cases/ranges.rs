@@ -1,15 +1,14 @@
 //! Directed cases: both ends of every range, long runs, runs as a whole, and the trials.
 
-use super::build::{count_index, mark_word, set_bucket};
+use super::build::{count_index, leave, mark_word, set_bucket};
 use super::Bodies;
-use crate::case::{self, Case, COUNT, INSERT, LOOK, NEXT, OPEN, REMOVE, RETIRE, RUN, SHOW, TURN};
+use crate::case::{self, Case, COUNT, INSERT, LOOK, MOVE, OPEN, REMOVE, RETIRE, RUN, SHOW, TURN};
 use crate::memory::BUCKET_WORDS;
-use crate::outcome::outcome;
 use crate::record::Record;
 
 pub fn make(bodies: &mut Bodies) {
     // for all orders only the first of these sizes is a small class
-    for call in OPEN..=NEXT {
+    for call in OPEN..=MOVE {
         for (w, n) in [(1, 1), (64, 1), (1, 256), (64, 256)] {
             let case = bodies.random.sound_sized(call, w, n);
             bodies.push(case);
@@ -97,9 +96,10 @@ fn any_lots(bodies: &mut Bodies) {
 
 fn versions(bodies: &mut Bodies) {
     for version in [0, 1, u32::MAX] {
-        for n in [1, 2] {
+        for (n, before) in [(1, 0), (2, 0), (1, u32::MAX)] {
             let mut case = bodies.random.sound_sized(OPEN, 2, n);
             case.ticket = version;
+            case.floor.version = before;
             bodies.push(case);
         }
     }
@@ -284,14 +284,6 @@ fn trials(bodies: &mut Bodies) {
     bodies.push(case.clone());
     leave(&mut case);
     show_and_count(bodies, &case);
-}
-
-/// Board, records and index become what the case leaves.
-fn leave(case: &mut Case) {
-    let after = outcome(case);
-    case.board = after.board;
-    case.list.records = after.records;
-    case.index = after.index;
 }
 
 /// A show of the trial's lot and a count, on what the case stands on.

@@ -2,13 +2,13 @@
 
 use super::build::{flip_bit, set_buckets, set_list, set_workers};
 use super::Bodies;
-use crate::case::{self, Case, COUNT, INSERT, LOOK, NEXT, OPEN, REMOVE, RUN, SHOW, TURN};
+use crate::case::{self, Case, COUNT, INSERT, LOOK, MOVE, OPEN, REMOVE, RUN, SHOW, TURN};
 use crate::memory::BUCKET_WORDS;
 use crate::random::Random;
 use crate::record::Record;
 
 pub fn make(bodies: &mut Bodies) {
-    for call in OPEN..=NEXT {
+    for call in OPEN..=MOVE {
         accepted(bodies, call);
         causes_of_1(bodies, call);
         large_boards(bodies, call);

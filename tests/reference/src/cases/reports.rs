@@ -17,8 +17,15 @@ type Turn = (Record, [u64; BUCKET_WORDS]);
 
 pub fn make(bodies: &mut Bodies) {
     for (n, bucket) in [(256, 255), (3, 1)] {
-        for turn in every_outcome(&mut bodies.random, lot_of(n, bucket)) {
-            let case = desk_with(bodies, TURN, n, &[turn]);
+        for (record, words) in every_outcome(&mut bodies.random, lot_of(n, bucket)) {
+            // it has slept, and somebody is asleep beside it
+            let own = Record {
+                asleep: 5,
+                ..record
+            };
+            let mut other = turn_at(&mut bodies.random, lot_of(n, 2), LOOK, 2);
+            other.0.asleep = 7;
+            let case = desk_with(bodies, TURN, n, &[(own, words), other]);
             bodies.push(case);
         }
     }

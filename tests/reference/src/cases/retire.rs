@@ -1,12 +1,11 @@
 //! Directed cases: a worker is retired, from every place, whatever it holds and whatever stands there; and what follows on an opened board.
 
-use super::build::{helds, mark_word, places, set_bucket};
+use super::build::{helds, leave, mark_word, places, set_bucket};
 use super::refusals::{break_bucket, refute_index, spoil_size};
 use super::Bodies;
 use crate::case::{Case, COUNT, INSERT, LOOK, REMOVE, RETIRE, SHOW, TURN};
 use crate::desk::{Desk, Manner};
 use crate::memory::BUCKET_WORDS;
-use crate::outcome::outcome;
 use crate::random::Random;
 use crate::record::{Record, NONE};
 use crate::word::{snap_set_map, MAP_INSRT};
@@ -306,10 +305,7 @@ fn trials(bodies: &mut Bodies) {
         for turns in 0..=10 {
             let mut case = stopped(version, turns);
             bodies.push(case.clone());
-            let after = outcome(&case);
-            case.board = after.board;
-            case.list.records = after.records;
-            case.index = after.index;
+            leave(&mut case);
             for (call, worker) in [(SHOW, 0), (COUNT, 0), (TURN, 0), (RETIRE, 0), (TURN, 1)] {
                 bodies.push(Case {
                     call,
@@ -340,6 +336,7 @@ fn stopped(version: u32, turns: usize) -> Case {
         board: desk.board.words(),
         list: desk.list,
         index: desk.index.0,
+        second: Vec::new(),
         turns: Vec::new(),
     }
 }

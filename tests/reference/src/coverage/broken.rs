@@ -11,7 +11,8 @@ pub fn see(case: &Case, outcome: &Outcome, met: &mut Vec<String>) {
     match outcome.answer.number() {
         0 => see_what_does_not_matter(case, met),
         3 => see_broken_record(case, outcome, met),
-        7 => see_broken_bucket(case, outcome, met),
+        // a move has more causes, and looks at every bucket
+        7 if case.call != case::MOVE => see_broken_bucket(case, outcome, met),
         _ => (),
     }
 }
@@ -22,13 +23,14 @@ fn see_broken_record(case: &Case, outcome: &Outcome, met: &mut Vec<String>) {
         case::RUN => "run",
         case::ORDERS => "orders",
         case::RETIRE => "retire",
+        case::MOVE => "move",
         _ => "start",
     };
     if !outcome.told.is_empty() {
         return;
     }
     let record = match case.call {
-        case::ORDERS => only_broken(&case.list.records),
+        case::ORDERS | case::MOVE => only_broken(&case.list.records),
         _ => record_of(case),
     };
     if let Some([cause]) = record.map(causes).as_deref() {

@@ -2,7 +2,7 @@
 //! index. Seen from the words before and after.
 
 use super::refusals::{length_of_index, record_of, takes_index, worker_of};
-use crate::case::{Case, NAMES, OPEN, RETIRE, RUN, TURN};
+use crate::case::{Case, MOVE, NAMES, OPEN, RETIRE, RUN, TURN};
 use crate::desk::MOST_BUCKETS;
 use crate::index::{Index, INDEX_WORDS};
 use crate::memory::BUCKET_WORDS;
@@ -116,8 +116,8 @@ pub fn see(case: &Case, outcome: &Outcome, met: &mut Vec<String>) {
     }
     let name = NAMES[case.call as usize];
     let number = outcome.answer.number();
-    if case.call == OPEN && number == 0 {
-        see_opening(case, met);
+    if matches!(case.call, OPEN | MOVE) && number == 0 {
+        see_made_afresh(name, case, met);
     }
     if !takes_index(case.call) && number == 0 {
         for what in oddities(case) {
@@ -329,7 +329,7 @@ fn see_stop(case: &Case, outcome: &Outcome, met: &mut Vec<String>) {
 }
 
 /// §21.2, whatever was there.
-fn see_opening(case: &Case, met: &mut Vec<String>) {
+fn see_made_afresh(name: &str, case: &Case, met: &mut Vec<String>) {
     let bits = &case.index[1..];
     for (is_so, what) in [
         (case.index.iter().all(|&word| word == 0), "zeros"),
@@ -339,7 +339,7 @@ fn see_opening(case: &Case, met: &mut Vec<String>) {
         (bits.iter().all(|&word| word == u64::MAX), "all bits"),
     ] {
         if is_so {
-            met.push(format!("open: 0 over an index of {what}"));
+            met.push(format!("{name}: 0 over an index of {what}"));
         }
     }
 }

@@ -1,6 +1,7 @@
 //! The points, by name. `{a,b}` stands for one point with a and one with b.
 
 mod index;
+mod moving;
 
 const POINTS: &[&str] = &[
     // every number of every call
@@ -35,32 +36,32 @@ const POINTS: &[&str] = &[
     "retire: 3 before 7",
     "retire: {1,2,3,7} before 11",
     // the causes of 1, each alone
-    "{open,look,insert,remove,turn,run,show,count,orders,retire,total,next}: 1 by {W 0,W 65,W 2^32+1,W 2^64-1}",
-    "{open,look,insert,remove,turn,run,show,count,orders,retire,total,next}: 1 by {N 0,N 257,N 2^32+1,N 2^64-1,an N whose 8N wraps}",
-    "{open,look,insert,remove,turn,run,show,count,orders,retire,total,next}: 1 by a board {empty,one word short,one word long,of 2040 words for N 256}",
-    "{open,look,insert,remove,turn,run,orders,retire}: 1 by a list {empty,one short,one long,of W+256}",
+    "{open,look,insert,remove,turn,run,show,count,orders,retire,total,next,move}: 1 by {W 0,W 65,W 2^32+1,W 2^64-1}",
+    "{open,look,insert,remove,turn,run,show,count,orders,retire,total,next,move}: 1 by {N 0,N 257,N 2^32+1,N 2^64-1,an N whose 8N wraps}",
+    "{open,look,insert,remove,turn,run,show,count,orders,retire,total,next,move}: 1 by a board {empty,one word short,one word long,of 2040 words for N 256}",
+    "{open,look,insert,remove,turn,run,orders,retire,move}: 1 by a list {empty,one short,one long,of W+256}",
     "{show,count,total,next}: 0 with a list {empty,one short,one long,of W+256}",
     "{show,count,total,next}: 0 with a broken record",
     "open: 0 {over a broken bucket,with a last ticket,with a floor outside its ranges}",
     "open: 0 over a {broken,busy} record of worker {0,63}",
     // the causes of a broken record, each alone
-    "{start,turn,run,orders,retire,turn beside}: broken record, kind {4,255}",
-    "{start,turn,run,orders,retire,turn beside}: broken record, idle with {a place,a key,a ticket,a slot,a word,a seen}",
-    "{start,turn,run,orders,retire,turn beside}: broken record, idle with held {0,1,2,4,255}",
-    "{start,turn,run,orders,retire,turn beside}: broken record, idle with asleep {1,256,65536,4294967294,4294967295}",
-    "{start,turn,run,orders,retire,turn beside}: broken record, look at {0,1,6,255}",
-    "{start,turn,run,orders,retire,turn beside}: broken record, insert at {0,11,255}",
-    "{start,turn,run,orders,retire,turn beside}: broken record, remove at {0,2,10,14,255}",
-    "{start,turn,run,orders,retire,turn beside}: broken record, insert with ticket 0",
-    "{start,turn,run,orders,retire,turn beside}: broken record, {look,remove} with ticket {1,4294967295}",
-    "{start,turn,run,orders,retire,turn beside}: broken record, {look,remove} with held {0,1,2,4,255}",
-    "{start,turn,run,orders,retire,turn beside}: broken record, insert at {1,2,3,4,5} with held {4,255}",
-    "{start,turn,run,orders,retire,turn beside}: broken record, insert at 6 with held {0,1,2,4,255}",
-    "{start,turn,run,orders,retire,turn beside}: broken record, insert at {7,8,9,10} with held {3,4,255}",
-    "{start,turn,run,orders,retire,turn beside}: broken record, {look,insert,remove} with slot {3,255}",
-    "{start,turn,run,orders,retire,turn beside}: broken record, {insert,remove} with mark {3,4,128,255} at {0,1,2} in its word",
-    "{start,turn,run,orders,retire,turn beside}: broken record, {insert,remove} with byte 7 {1,2,128,255} in its word",
-    "{start,turn,run,orders,retire,turn beside}: broken record, look with {a version,mark 1,mark 2,mark 3} in its word",
+    "{start,turn,run,orders,retire,turn beside,move}: broken record, kind {4,255}",
+    "{start,turn,run,orders,retire,turn beside,move}: broken record, idle with {a place,a key,a ticket,a slot,a word,a seen}",
+    "{start,turn,run,orders,retire,turn beside,move}: broken record, idle with held {0,1,2,4,255}",
+    "{start,turn,run,orders,retire,turn beside,move}: broken record, idle with asleep {1,256,65536,4294967294,4294967295}",
+    "{start,turn,run,orders,retire,turn beside,move}: broken record, look at {0,1,6,255}",
+    "{start,turn,run,orders,retire,turn beside,move}: broken record, insert at {0,11,255}",
+    "{start,turn,run,orders,retire,turn beside,move}: broken record, remove at {0,2,10,14,255}",
+    "{start,turn,run,orders,retire,turn beside,move}: broken record, insert with ticket 0",
+    "{start,turn,run,orders,retire,turn beside,move}: broken record, {look,remove} with ticket {1,4294967295}",
+    "{start,turn,run,orders,retire,turn beside,move}: broken record, {look,remove} with held {0,1,2,4,255}",
+    "{start,turn,run,orders,retire,turn beside,move}: broken record, insert at {1,2,3,4,5} with held {4,255}",
+    "{start,turn,run,orders,retire,turn beside,move}: broken record, insert at 6 with held {0,1,2,4,255}",
+    "{start,turn,run,orders,retire,turn beside,move}: broken record, insert at {7,8,9,10} with held {3,4,255}",
+    "{start,turn,run,orders,retire,turn beside,move}: broken record, {look,insert,remove} with slot {3,255}",
+    "{start,turn,run,orders,retire,turn beside,move}: broken record, {insert,remove} with mark {3,4,128,255} at {0,1,2} in its word",
+    "{start,turn,run,orders,retire,turn beside,move}: broken record, {insert,remove} with byte 7 {1,2,128,255} in its word",
+    "{start,turn,run,orders,retire,turn beside,move}: broken record, look with {a version,mark 1,mark 2,mark 3} in its word",
     // the sound ends of the same ranges
     "turn: sound look at {2,3,4,5}",
     "turn: sound insert at {1,2,3,4,5} held {0,1,2,3}",
@@ -108,7 +109,7 @@ const POINTS: &[&str] = &[
     "at 13 ends with {0,more,2^64-1}",
     "at 9 version 4294967295 to 0 held {0,1,2}, other marks {00,01,02,10,11,12,20,21,22}",
     // both ends of every range
-    "{open,look,insert,remove,turn,run,show,count,retire,total,next}: 0 with {W 1,W 64,N 1,N 256}",
+    "{open,look,insert,remove,turn,run,show,count,retire,total,next,move}: 0 with {W 1,W 64,N 1,N 256}",
     "{look,insert,remove,turn,retire}: 0 with worker {0,W-1,63}",
     "{look,insert,remove,turn,retire}: 2 with worker {W,64 of 64,256,4294967296,2^64-1}",
     "{look,insert,remove}: {3,4} for worker 63",
@@ -337,7 +338,7 @@ const POINTS: &[&str] = &[
 
 /// Every point by its name.
 pub fn points() -> Vec<String> {
-    let patterns = POINTS.iter().chain(index::POINTS);
+    let patterns = POINTS.iter().chain(index::POINTS).chain(moving::POINTS);
     patterns.flat_map(|pattern| expand(pattern)).collect()
 }
 

@@ -1,6 +1,7 @@
 //! Which numbers came, in which order, and what alone caused a 1.
 
 use super::index::is_refuted;
+use super::moving::{is_crowded, is_kept_back, sizes_of_the_new_board};
 use super::orders::causes_of_10;
 use crate::case::{self, Case, NAMES};
 use crate::desk::{MOST_BUCKETS, MOST_TURNS, MOST_WORKERS};
@@ -64,8 +65,8 @@ pub fn takes_list(call: u8) -> bool {
 }
 
 pub fn takes_index(call: u8) -> bool {
-    use case::{NEXT, OPEN, RETIRE, RUN, TOTAL, TURN};
-    matches!(call, OPEN | TURN | RUN | RETIRE | TOTAL | NEXT)
+    use case::{MOVE, NEXT, OPEN, RETIRE, RUN, TOTAL, TURN};
+    matches!(call, OPEN | TURN | RUN | RETIRE | TOTAL | NEXT | MOVE)
 }
 
 /// W and N that the call must measure: an opening's are those asked for.
@@ -116,10 +117,11 @@ pub fn applying(case: &Case) -> Vec<u8> {
         case::COUNT | case::ORDERS => {
             (0..MOST_BUCKETS).any(|number| is_broken_bucket(case, number))
         }
+        case::MOVE => is_kept_back(case),
         _ => false,
     };
     let broken_record = match case.call {
-        case::ORDERS => case.list.records.iter().any(Record::is_broken),
+        case::ORDERS | case::MOVE => case.list.records.iter().any(Record::is_broken),
         _ => record.is_some_and(Record::is_broken),
     };
     let applies = [
@@ -139,13 +141,18 @@ pub fn applying(case: &Case) -> Vec<u8> {
         (9, case.call == case::RUN && case.turns.len() > MOST_TURNS),
         (10, !causes_of_10(case).is_empty()),
         (11, is_refuted(case)),
+        (
+            12,
+            case.call == case::MOVE && case.list.records.iter().any(Record::is_sleeper),
+        ),
+        (13, case.call == case::MOVE && is_crowded(case)),
     ];
     let numbers = applies.iter().filter(|(_, does)| *does);
     numbers.map(|(number, _)| *number).collect()
 }
 
 /// What gives cause for a 1. A board is measured only by an N that it can have, and a list only by a W that it can have.
-fn causes_of_1(case: &Case) -> Vec<&'static str> {
+pub fn causes_of_1(case: &Case) -> Vec<&'static str> {
     let (w, n) = sizes(case);
     let words = case.board.len() as u64;
     let mut causes = Vec::new();
@@ -180,6 +187,9 @@ fn causes_of_1(case: &Case) -> Vec<&'static str> {
     }
     if takes_index(case.call) && case.index.len() != INDEX_WORDS {
         causes.push(length_of_index(case.index.len()));
+    }
+    if case.call == case::MOVE {
+        causes.extend(sizes_of_the_new_board(case));
     }
     causes
 }

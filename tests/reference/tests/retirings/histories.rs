@@ -144,6 +144,7 @@ impl State {
             workers: self.records.len() as u64,
             buckets: 1,
             last_ticket: self.last_ticket,
+            version: 0,
         };
         let list = List {
             length: floor.workers,

@@ -6,9 +6,10 @@ use native.Mathlib.Omega.{arith}
 use borrow.Author.Needs.{needs}
 use Rattle.turn.specs.Bucket.{brokenBucket}
 use Rattle.engine.specs.declared.Counted.the-variants.{Lots}
-use Rattle.engine.specs.Board.{lotsOn, anyBroken, bucketAt}
+use Rattle.engine.specs.Board.{lotsOn, anyUnder, anyBroken, bucketAt}
 use Rattle.engine.proofs.Parts.{part-at}
-use Rattle.engine.proofs.Buckets.{lots-next, broken-next, broken-at}
+use Rattle.engine.proofs.Buckets.{lots-next}
+use Rattle.engine.proofs.AnyUnder.{any-next, any-at}
 use Rattle.engine.proofs.lots.count.Statement.{statement}
 use Rattle.engine.proofs.lots.count.Tie as tie
 
@@ -27,19 +28,19 @@ found c =
     c .is-broken .ensures ∙ ap brokenBucket (part-at (l .before .before .args .board .now) (8 * l .loop .b) (l .loop .b) refl)
 
 loop-holds : tie.Need-loop-holds Inv-loop μ-loop
-unfolding anyBroken lotsOn
+unfolding anyUnder lotsOn
 loop-holds c = (refl, (refl, (omega arith, omega arith)))
 
 returns : tie.Need-returns Inv-loop μ-loop
 returns c =
     let i = c .before .before .before in
-    rw (broken-at _ (i .before .loop .b) _ (i .loop-test .taken) (sym (found (c .before)) ∙ c .if1 .taken))
+    rw (any-at _ (i .before .loop .b) _ (i .loop-test .taken) (sym (found (c .before)) ∙ c .if1 .taken))
 
 loop-again : tie.Need-loop-again Inv-loop μ-loop
 loop-again c =
     let e = c .before .before in
     let l = e .before .before .before .before in (
-      broken-next _ (l .loop .b) (l .loop .inv .0) (sym (found (e .before)) ∙ e .if1 .left),
+      any-next _ (l .loop .b) (l .loop .inv .0) (sym (found (e .before)) ∙ e .if1 .left),
       (
         rw (c .valid-slots .ensures .0, l .loop .inv .1 .0) (lots-next _ (l .loop .b)),
         (omega (arith, c .valid-slots .ensures .1), omega arith),

@@ -2,14 +2,14 @@
 
 pub const POINTS: &[&str] = &[
     // §6.1: an index of another length, where a call is given one and where it is not
-    "{open,turn,run,retire,total,next}: 1 by an index {empty,of 4 words,of 6 words,of 13 words}",
+    "{open,turn,run,retire,total,next,move}: 1 by an index {empty,of 4 words,of 6 words,of 13 words}",
     "{look,insert,remove,show,count,orders}: 0 with an index {empty,of 4 words,of 6 words,of 13 words}",
     "{turn,retire}: 1 by an index alone before {2,3,6,7}",
     "run: 1 by an index alone before {2,3,6,7,9}",
     "retire: 1 by an index with nothing held",
     "run: 1 by an index with no turns",
-    // §21.2: an opening makes it, whatever it was
-    "open: 0 over an index of {zeros,a total,a total of 2^64-1,bits in each word,all bits}",
+    // §21.2: an opening makes it, whatever it was, and a move makes it afresh
+    "{open,move}: 0 over an index of {zeros,a total,a total of 2^64-1,bits in each word,all bits}",
     // §21.5: the causes of 11, each alone, and where the bit is that is looked at
     "{turn,run,retire}: 11 by a bit over no valid slot, N {1,256}",
     "{turn,run,retire}: 11 by no bit over {1,2,3} valid slots, N {1,256}",
