@@ -37,10 +37,18 @@ size_t worker_who(chance *c, const hall *h, bool idle) {
     return from;
 }
 
-uint32_t next_ticket(chance *c, uint32_t last) {
-    if (now_and_then(c, 4)) return last - (uint32_t)below(c, 2);
-    if (now_and_then(c, 1)) return 0xffffffff;
-    return last + 1 + (uint32_t)below(c, 3);
+/* about where the low half of a ticket comes round, where a sign would change, and the highest; and any. Of some the low half is 0. */
+uint64_t some_ticket(chance *c) {
+    return ONE_OF(c, 1, 2, 0xffffffff, HALF, HALF + 1, HALF << below(c, 32), INT64_MAX, any(c), any(c) >> below(c, 64), UINT64_MAX - below(c, 3));
+}
+
+/* Mostly one of the next few. Some are spent, and of these some would not be if both numbers were cut to their low halves; and some leap: to
+   just before the low half comes round, to where it is the same or 0, anywhere, or to the highest ones, after which there is none. */
+uint64_t next_ticket(chance *c, uint64_t last) {
+    if (now_and_then(c, 6)) return ONE_OF(c, last, last - 1, last % HALF + 1, 0);
+    if (now_and_then(c, 8)) return ONE_OF(c, last | 0xffffffff, last + HALF, last - last % HALF + HALF, some_ticket(c));
+    if (now_and_then(c, 1)) return UINT64_MAX - below(c, 3);
+    return last + 1 + below(c, 3);
 }
 
 /* Of all orders no more than some four thousand turns are walked, whoever is busy; where more are busy than a small class has, any depth is
@@ -98,7 +106,7 @@ void fill_with_anything(chance *c, hall *h) {
     for (size_t i = 0; i < ROOM_WORDS; i++) h->board[i] = any(c);
     for (size_t i = 0; i < ROOM_RECORDS; i++)
         h->records[i] = (desk_worker){
-            .kind = 9, .place = 99, .key = any(c), .ticket = 9, .slot = 9, .word = any(c), .held = 9, .seen = i, .asleep = 9};
+            .kind = 9, .place = 99, .key = any(c), .ticket = any(c), .slot = 9, .word = any(c), .held = 9, .seen = i, .asleep = 9};
     for (size_t i = 0; i < ROOM_INDEX; i++) h->index[i] = any(c);
     for (size_t i = 0; i < ROOM_WORDS; i++) h->second[i] = any(c);
 }
@@ -113,11 +121,16 @@ uint64_t broken_word(chance *c) {
     return some_word(c) | ONE_OF(c, 3, 4, 0x80, 0xff) << (32 + 8 * below(c, 4));
 }
 
+/* few, so that they meet; of some one half is the same, and of some it is 0 */
+uint64_t some_value(chance *c) {
+    return now_and_then(c, 75) ? below(c, 4) : ONE_OF(c, HALF, HALF + 1, 2 * HALF + 1, UINT64_MAX);
+}
+
 void any_bucket(chance *c, uint64_t *bucket, size_t buckets) {
     bucket[0] = now_and_then(c, 4) ? broken_word(c) : some_word(c);
     for (size_t slot = 0; slot < SLOTS; slot++) {
         bucket[1 + slot] = some_lot(c, buckets);
-        bucket[4 + slot] = below(c, 4);
+        bucket[4 + slot] = some_value(c);
     }
     bucket[7] = now_and_then(c, 3) ? ONE_OF(c, 1, 0x8000000000000000, any(c)) : 0;
 }
@@ -138,13 +151,14 @@ static desk_worker any_record(chance *c, const hall *h) {
     const uint64_t *bucket = h->board + BUCKET_WORDS * (w.key % h->floor.buckets);
     w.slot = (uint8_t)below(c, SLOTS);
     w.asleep = some_sleep(c);
-    w.seen = now_and_then(c, 60) ? bucket[4 + w.slot] : below(c, 4);
+    w.seen = now_and_then(c, 60) ? bucket[4 + w.slot] : some_value(c);
     if (w.kind != LOOK) w.word = now_and_then(c, 60) ? bucket[0] : some_word(c);
     if (w.kind == LOOK) w.place = (uint8_t)(2 + below(c, 4));
     if (w.kind == REMOVE) w.place = (uint8_t)ONE_OF(c, 1, 11, 12, 13);
     if (w.kind == INSERT) {
         w.place = (uint8_t)(1 + below(c, 10));
-        w.ticket = (uint32_t)ONE_OF(c, 1, 2, 0xffffffff, any(c) | 1);
+        w.ticket = some_ticket(c);
+        if (w.ticket == 0) w.ticket = 1;
         w.held = held_at(c, w.place);
     }
     return w;
@@ -155,7 +169,7 @@ static void spoil(chance *c, desk_worker *w) {
     switch (below(c, 10)) {
     case 0: w->kind = (uint8_t)ONE_OF(c, 0, 1, 2, 3, 4, 255); break;
     case 1: w->place = (uint8_t)ONE_OF(c, below(c, 16), below(c, 16), 255); break;
-    case 2: w->ticket = (uint32_t)below(c, 2); break;
+    case 2: w->ticket = ONE_OF(c, 0, 1, HALF, some_ticket(c)); break;
     case 3: w->slot = (uint8_t)ONE_OF(c, 3, 255); break;
     case 4: w->word = ONE_OF(c, broken_word(c), some_word(c), 1); break;
     case 5: w->held = (uint8_t)ONE_OF(c, below(c, 5), 255); break;
@@ -204,8 +218,8 @@ void true_index(hall *h) {
 }
 
 void any_hall(chance *c, hall *h) {
-    h->floor = (desk_floor){.workers = 1 + below(c, 5), .buckets = ONE_OF(c, 1, 1, 2, 3), .last = (uint32_t)ONE_OF(c, 0, 7, 0xffffffff),
-        .version = some_version(c)};
+    h->floor = (desk_floor){.workers = 1 + below(c, 5), .buckets = ONE_OF(c, 1, 1, 2, 3), .last = ONE_OF(c, 0, 7, some_ticket(c)),
+        .version = some_version(c), .spare = (uint32_t)any(c)};
     if (now_and_then(c, 6)) h->floor.buckets = ONE_OF(c, 64, 65, 130, 193, MOST_BUCKETS);
     h->words = BUCKET_WORDS * h->floor.buckets;
     h->listed = h->floor.workers;

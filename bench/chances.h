@@ -14,7 +14,8 @@ uint64_t some_lot(chance *c, size_t buckets);
 size_t some_worker(chance *c, size_t workers);
 size_t worker_who(chance *c, const hall *h, bool idle);
 size_t worker_who_holds(chance *c, const hall *h);
-uint32_t next_ticket(chance *c, uint32_t last);
+uint64_t some_ticket(chance *c);
+uint64_t next_ticket(chance *c, uint64_t last);
 size_t some_depth(chance *c, const hall *h);
 size_t some_from(chance *c, size_t buckets);
 desk_plan some_plan(chance *c);
@@ -24,6 +25,7 @@ size_t words_for(chance *c, size_t buckets);
 /* parts of a board and of a record */
 uint64_t some_word(chance *c);
 uint64_t broken_word(chance *c);
+uint64_t some_value(chance *c);
 void any_bucket(chance *c, uint64_t *bucket, size_t buckets);
 uint32_t some_sleep(chance *c);
 

@@ -17,10 +17,10 @@ bool met_everything(void) {
 /* ---- answers */
 
 static const char *const answer_names[CALLS][MOST_NUMBERS] = {
-    [OPEN] = {"refusal", "workers", "buckets", "last", "version"},
-    [START_LOOK] = {"refusal", "workers", "buckets", "last", "version"},
-    [START_INSERT] = {"refusal", "workers", "buckets", "last", "version"},
-    [START_REMOVE] = {"refusal", "workers", "buckets", "last", "version"},
+    [OPEN] = {"refusal", "workers", "buckets", "last", "version", "spare"},
+    [START_LOOK] = {"refusal", "workers", "buckets", "last", "version", "spare"},
+    [START_INSERT] = {"refusal", "workers", "buckets", "last", "version", "spare"},
+    [START_REMOVE] = {"refusal", "workers", "buckets", "last", "version", "spare"},
     [TURN] = {"refusal", "action", "ended", "full", "answer", "bucket", "before", "after"},
     [RUN] = {"stop", "turns", "changes", "lost", "full", "last action", "last ended", "last full", "last answer", "last bucket",
         "last before", "last after"},
@@ -30,13 +30,13 @@ static const char *const answer_names[CALLS][MOST_NUMBERS] = {
     [RETIRE] = {"refusal"},
     [TOTAL] = {"refusal", "total"},
     [NEXT] = {"refusal", "found", "bucket"},
-    [MOVE] = {"refusal", "workers", "buckets", "last", "version"},
+    [MOVE] = {"refusal", "workers", "buckets", "last", "version", "spare"},
 };
 
 /* the caller passes the floor on that was handed back, so what is in the hall is also compared */
 static answer of_outcome(hall *h, desk_outcome o) {
     h->floor = o.floor;
-    return (answer){{o.refusal, o.floor.workers, o.floor.buckets, o.floor.last, o.floor.version}};
+    return (answer){{o.refusal, o.floor.workers, o.floor.buckets, o.floor.last, o.floor.version, o.floor.spare}};
 }
 
 static answer of_turn(desk_turn_outcome t) {
@@ -159,6 +159,7 @@ static void compare_halls(const hall *desk, const hall *plain) {
     compare_number("buckets of the floor", 0, desk->floor.buckets, plain->floor.buckets);
     compare_number("last of the floor", 0, desk->floor.last, plain->floor.last);
     compare_number("version of the floor", 0, desk->floor.version, plain->floor.version);
+    compare_number("spare of the floor", 0, desk->floor.spare, plain->floor.spare);
 }
 
 /* of an opened board, in the place of what the engine by hand has: the index that the board comes to, the answers that it gives itself to
@@ -177,7 +178,7 @@ static void stop_at_difference(const pair *p, const call *c) {
     if (differences == 0) return;
     const hall *h = &p->desk;
     printf("seed %lu, history %lu, call %lu: %s\n", the_seed, the_history, compared, call_names[c->which]);
-    printf("  on %lu words, %lu records and an index of %lu; worker %#lx, lot %#lx, ticket %#x, %lu turns, depth %#lx, from %#lx, plan of "
+    printf("  on %lu words, %lu records and an index of %lu; worker %#lx, lot %#lx, ticket %#lx, %lu turns, depth %#lx, from %#lx, plan of "
            "%#lx workers and %#lx buckets, a second board of %#lx words and %#lx buckets\n",
         h->words, h->listed, h->entries, c->worker, c->lot, c->ticket, c->count, c->depth, c->from, c->plan.workers, c->plan.buckets, c->words,
         c->buckets);

@@ -13,7 +13,7 @@ typedef struct {
     desk_plan plan;
     size_t worker;
     uint64_t lot;
-    uint32_t ticket;
+    uint64_t ticket;
     const uint8_t *turns;
     size_t count;
     size_t depth;

@@ -1,7 +1,7 @@
 /* Random histories, the same ones for the same seed: those of an opened board, which go deep; those of any board, any records and any
    index, with every kind of fault; those of a hall at rest, which moves; every record, as far as its small fields go; the longest runs; two
-   short calls to every depth; every index, as far as it concerns one bucket, and every length of it; every question of the display; and moves
-   from every size to every size. */
+   short calls to every depth; every index, as far as it concerns one bucket, and every length of it; every question of the display; moves
+   from every size to every size; and tickets at both ends of their halves, each after each. */
 #include "histories.h"
 #include "chances.h"
 #include "compare.h"
@@ -91,7 +91,8 @@ static void opened_history(chance *c, uint64_t seed, uint64_t history) {
     h->words = BUCKET_WORDS * open.plan.buckets;
     h->listed = open.plan.workers;
     h->entries = INDEX_WORDS;
-    h->floor = (desk_floor){.workers = any(c), .buckets = any(c), .last = (uint32_t)any(c), .version = (uint32_t)any(c)};
+    h->floor = (desk_floor){.workers = any(c), .buckets = any(c), .last = any(c), .version = (uint32_t)any(c),
+        .spare = (uint32_t)any(c)};
     begin(&halls, seed, history);
     make(&halls, &open);
     size_t spoilt = below(c, 4 * OPENED_CALLS);
@@ -112,7 +113,7 @@ static call any_call(chance *c, const hall *h) {
     if (now_and_then(c, 50)) made.plan = some_plan(c);
     made.worker = some_worker(c, h->floor.workers);
     made.lot = some_lot(c, h->floor.buckets);
-    made.ticket = (uint32_t)ONE_OF(c, 0, h->floor.last, h->floor.last + 1, any(c));
+    made.ticket = ONE_OF(c, 0, h->floor.last, h->floor.last + 1, next_ticket(c, h->floor.last), some_ticket(c), any(c));
     made.count = below(c, 12);
     made.depth = some_depth(c, h);
     made.from = some_from(c, h->floor.buckets);
@@ -180,8 +181,9 @@ static void try_record(chance *c, desk_worker w) {
 }
 
 static void every_record(chance *c, uint64_t seed, uint64_t history) {
+    static const uint64_t brought[3] = {0, 1, HALF};
     any_hall(c, &halls.desk);
-    halls.desk.floor = (desk_floor){.workers = 2, .buckets = 1, .last = 0};
+    halls.desk.floor = (desk_floor){.workers = 2, .buckets = 1, .last = 0, .spare = (uint32_t)any(c)};
     halls.desk.words = BUCKET_WORDS;
     halls.desk.listed = 2;
     begin(&halls, seed, history);
@@ -189,9 +191,9 @@ static void every_record(chance *c, uint64_t seed, uint64_t history) {
         for (uint8_t place = 0; place <= LAST_PLACE + 1; place++)
             for (uint8_t held = 0; held <= 4; held++)
                 for (uint8_t slot = 0; slot <= SLOTS; slot++)
-                    for (uint8_t more = 0; more < 6; more++) {
-                        desk_worker w = {.kind = kind, .place = place, .held = held, .slot = slot, .ticket = more % 2};
-                        if (more >= 2) w.word = more < 4 ? some_word(c) : broken_word(c);
+                    for (uint8_t more = 0; more < 9; more++) {
+                        desk_worker w = {.kind = kind, .place = place, .held = held, .slot = slot, .ticket = brought[more % 3]};
+                        if (more >= 3) w.word = more < 6 ? some_word(c) : broken_word(c);
                         if (now_and_then(c, 50)) w.key = below(c, 3);
                         if (now_and_then(c, 50)) w.seen = below(c, 3);
                         if (now_and_then(c, 50)) w.asleep = some_sleep(c);
@@ -206,7 +208,7 @@ static void longest_runs(chance *c, uint64_t seed, uint64_t history) {
     hall *h = &halls.desk;
     for (size_t i = 0; i < h->words; i++) h->board[i] = i % BUCKET_WORDS == 0 ? 0x0001010100000000 : 0;
     for (size_t i = 0; i < h->listed; i++)
-        h->records[i] = (desk_worker){.kind = INSERT, .place = 1, .key = 7 + i, .ticket = 1 + (uint32_t)i, .held = HOLDS_NONE};
+        h->records[i] = (desk_worker){.kind = INSERT, .place = 1, .key = 7 + i, .ticket = 1 + i, .held = HOLDS_NONE};
     true_index(h);
     begin(&halls, seed, history);
     for (size_t i = 0; i < ROOM_TURNS; i++) turns[i] = (uint8_t)below(c, h->listed);
@@ -388,13 +390,56 @@ static void every_move(chance *c, uint64_t seed, uint64_t history) {
         }
 }
 
+/* ---- every ticket after every other, of those about where a half, a sign or the whole comes round: a start on a floor whose last it is, the
+   insert to its end, a look and a move if it stands, its remove; and each in a record of every kind that is sound or idle without it */
+
+enum { TICKETS = 12 };
+
+static const uint64_t tickets[TICKETS] = {
+    0, 1, 2, HALF - 1, HALF, HALF + 1, 2 * HALF - 1, 2 * HALF, INT64_MAX, (uint64_t)INT64_MAX + 1, UINT64_MAX - 1, UINT64_MAX};
+
+/* the first worker's call, by turns, to its end, as one ends who is alone */
+static void play_out(which start, uint64_t ticket) {
+    make(&halls, &(call){.which = start, .worker = 0, .lot = 7, .ticket = ticket});
+    for (size_t i = 0; i < MOST_ALONE && halls.desk.records[0].kind != IDLE; i++) make(&halls, &(call){.which = TURN, .worker = 0});
+}
+
+static void play_ticket(const hall *h, uint64_t ticket) {
+    put_hall(h);
+    play_out(START_INSERT, ticket);
+    play_out(START_LOOK, 0);
+    move_all(3);
+    play_out(START_REMOVE, 0);
+    play_out(START_INSERT, ticket);
+}
+
+static void try_ticket(chance *c, uint64_t ticket) {
+    for (uint8_t kind = IDLE; kind <= REMOVE; kind++)
+        try_record(c, (desk_worker){.kind = kind, .place = kind == LOOK ? 2 : kind != IDLE, .held = HOLDS_NONE, .ticket = ticket});
+}
+
+static void every_ticket(chance *c, uint64_t seed, uint64_t history) {
+    static hall h;
+    any_hall(c, &h);
+    h.listed = h.floor.workers = 2;
+    begin(&halls, seed, history);
+    for (size_t last = 0; last < TICKETS; last++) {
+        h.floor.last = tickets[last];
+        h.floor.spare = (uint32_t)any(c) | 1;
+        set_resting_hall(&h, 1, 0);
+        for (size_t i = 0; i < TICKETS; i++) play_ticket(&h, tickets[i]);
+        put_hall(&h);
+        try_ticket(c, tickets[last]);
+    }
+}
+
 /* ---- all of them */
 
-enum { DIRECTED = 7 };
+enum { DIRECTED = 8 };
 
 bool compare_histories(uint64_t seed) {
     static void (*const directed[DIRECTED])(chance *, uint64_t seed, uint64_t history) = {every_record, longest_runs, every_depth,
-        every_index, every_length, every_question, every_move};
+        every_index, every_length, every_question, every_move, every_ticket};
     enum { WILD = OPENED_HISTORIES, RESTING = WILD + WILD_HISTORIES, FIRST_DIRECTED = RESTING + RESTING_HISTORIES };
     for (uint64_t history = 0; history < FIRST_DIRECTED + DIRECTED; history++) {
         chance c = {.state = seed * 0x100000000 + history};

@@ -75,6 +75,22 @@ static unsigned long wrong_buckets, wrong_words, inserting, before_others[REFUSA
 /* calls of each kind that were accepted on a board to which the hall had moved */
 static unsigned long on_moved[CALLS];
 
+/* inserts that were accepted: with a ticket whose low half is not above the last one's; with one past 32 bits, where the last one was not; with
+   one whose highest bit is set, where the last one's was not; with the highest ticket; and on a floor whose last is past 32 bits */
+enum { LOWER_LOW_HALF, OUT_OF_32_BITS, OVER_THE_SIGN, THE_HIGHEST, PAST_32_BITS, RISES };
+
+/* those that were refused by 5: with a ticket whose low half is above the last one's; below the last one, where a sign would put it above; and
+   after the highest */
+enum { HIGHER_LOW_HALF, UNDER_THE_SIGN, AFTER_THE_HIGHEST, FALLS };
+static unsigned long risen[RISES], fallen[FALLS];
+
+/* of tickets whose low half is 0, and the whole is not: turns that stored one, turns that answered one, and records of a kind that have one and
+   nothing else that is wrong, which breaks all but an insert; and moves of a floor whose last ticket is past 32 bits */
+static unsigned long stored_long, answered_long, kept_long[REMOVE + 1], moved_long;
+
+/* calls that hand back a floor, and were given one whose spare is not 0: those that were done, and those that were refused */
+static unsigned long spare_done[CALLS], spare_refused[CALLS];
+
 static bool missing(const char *what, unsigned number, unsigned long times) {
     if (times == 0) printf("never met: %s %u\n", what, number);
     return times == 0;
@@ -173,6 +189,27 @@ static bool lacks_moves(void) {
     return lacks;
 }
 
+static bool lacks_tickets(void) {
+    bool lacks = false;
+    for (unsigned rise = 0; rise < RISES; rise++) lacks |= missing("an insert accepted of kind", rise, risen[rise]);
+    for (unsigned fall = 0; fall < FALLS; fall++) lacks |= missing("an insert refused for its ticket of kind", fall, fallen[fall]);
+    for (unsigned kind = IDLE; kind <= REMOVE; kind++) lacks |= missing("a ticket whose low half is 0 in a record of kind", kind, kept_long[kind]);
+    lacks |= missing("turns that store a ticket whose low half is 0 over", 0, stored_long);
+    lacks |= missing("turns that answer a ticket whose low half is 0 over", 0, answered_long);
+    lacks |= missing("moves after a ticket past 32 bits over", 0, moved_long);
+    return lacks;
+}
+
+static bool lacks_spares(void) {
+    static const which calls[] = {OPEN, START_LOOK, START_INSERT, START_REMOVE, MOVE};
+    bool lacks = false;
+    for (size_t i = 0; i < sizeof calls / sizeof calls[0]; i++) {
+        lacks |= missing("done with a spare that is not 0 a call of", calls[i], spare_done[calls[i]]);
+        lacks |= missing("refused with a spare that is not 0 a call of", calls[i], spare_refused[calls[i]]);
+    }
+    return lacks;
+}
+
 bool lacks_something(void) {
     bool lacks = false;
     for (size_t i = 0; i < CALLS; i++)
@@ -195,6 +232,8 @@ bool lacks_something(void) {
     lacks |= lacks_sleepers();
     lacks |= lacks_display();
     lacks |= lacks_moves();
+    lacks |= lacks_tickets();
+    lacks |= lacks_spares();
     return lacks;
 }
 
@@ -257,6 +296,51 @@ static uint8_t refused_start(desk_worker w) {
     uint64_t bucket[BUCKET_WORDS] = {0};
     desk_floor floor = {.workers = 1, .buckets = 1};
     return by_hand.start_look(bucket, BUCKET_WORDS, &w, 1, floor, 0, 0).refusal;
+}
+
+/* ---- of tickets */
+
+static bool only_high_half(uint64_t ticket) {
+    return ticket != 0 && ticket % HALF == 0;
+}
+
+static void note_rise(uint64_t last, uint64_t ticket) {
+    risen[LOWER_LOW_HALF] += ticket % HALF <= last % HALF;
+    risen[OUT_OF_32_BITS] += last < HALF && ticket >= HALF;
+    risen[OVER_THE_SIGN] += last <= INT64_MAX && ticket > INT64_MAX;
+    risen[THE_HIGHEST] += ticket == UINT64_MAX;
+    risen[PAST_32_BITS] += last >= HALF;
+}
+
+static void note_fall(uint64_t last, uint64_t ticket) {
+    fallen[HIGHER_LOW_HALF] += ticket % HALF > last % HALF;
+    fallen[UNDER_THE_SIGN] += ticket <= INT64_MAX && last > INT64_MAX;
+    fallen[AFTER_THE_HIGHEST] += last == UINT64_MAX;
+}
+
+/* of a call for this worker whose record was looked at: an insert has to have a ticket, and nobody else may have one */
+static void note_ticket_kept(const desk_worker *w) {
+    desk_worker with = *w;
+    with.ticket = w->kind == INSERT;
+    if (w->kind <= REMOVE && only_high_half(w->ticket)) kept_long[w->kind] += refused_start(with) != DESK_BROKEN_RECORD;
+}
+
+static void note_tickets(const call *c, const answer *a, const found *f) {
+    uint64_t refusal = a->number[0];
+    if (c->which == START_INSERT && refusal == 0) note_rise(f->floor.last, c->ticket);
+    if (c->which == START_INSERT && refusal == DESK_SPENT_TICKET) note_fall(f->floor.last, c->ticket);
+    if (c->which == MOVE && refusal == 0) moved_long += f->floor.last >= HALF;
+    if (c->which != TURN || refusal == DESK_WRONG_SIZES) return;
+    note_ticket_kept(&f->worker);
+    if (refusal != 0) return;
+    stored_long += f->worker.place == 7 && only_high_half(f->worker.ticket);
+    answered_long += only_high_half(a->number[REPORT_OF_TURN + 3]);
+}
+
+/* only the calls that hand back a floor are asked about */
+static void note_spare(which w, uint64_t refusal, uint32_t spare) {
+    spare_done[w] += refusal == 0 && spare != 0;
+    spare_refused[w] += refusal != 0 && spare != 0;
 }
 
 /* of a turn that is done */
@@ -435,6 +519,8 @@ void note(const call *c, const hall *h, const answer *a, const found *f) {
     met[c->which][a->number[0] % REFUSALS]++;
     on_moved[c->which] += f->moved && a->number[0] == 0;
     note_display(c, h, a, f);
+    note_tickets(c, a, f);
+    note_spare(c->which, a->number[0], f->floor.spare);
     if (c->which == MOVE && a->number[0] == 0) note_done_move(h, f);
     if (c->which == MOVE && a->number[0] != 0) note_refused_move(c, h, a->number[0] % REFUSALS);
     if (c->which == ORDERS) note_orders(h, a);

@@ -26,7 +26,7 @@ static void fill_board(hall *h, size_t buckets, size_t lots) {
             bucket[4 + slot] = 1 + slot + lots * number;
         }
     }
-    h->floor.last = (uint32_t)(lots * buckets);
+    h->floor.last = lots * buckets;
     tell_display(h);
 }
 
@@ -177,7 +177,7 @@ static void place_lots(hall *h, size_t buckets, size_t lots) {
         bucket[1 + slot] = lot;
         bucket[4 + slot] = 1 + lot;
     }
-    h->floor.last = (uint32_t)lots;
+    h->floor.last = lots;
     tell_display(h);
 }
 

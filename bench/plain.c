@@ -51,7 +51,7 @@ desk_outcome plain_open_floor(uint64_t *board, size_t words, desk_worker *record
     }
     for (size_t i = 0; i < listed; i++) records[i] = idle_record;
     for (size_t i = 0; i < INDEX_WORDS; i++) index[i] = 0;
-    return answer_floor(0, (desk_floor){.workers = plan.workers, .buckets = plan.buckets, .last = 0, .version = plan.version});
+    return answer_floor(0, (desk_floor){.workers = plan.workers, .buckets = plan.buckets, .last = 0, .version = plan.version, .spare = 0});
 }
 
 /* ---- starting */

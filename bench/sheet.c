@@ -7,9 +7,9 @@ enum { LONGEST_SHEET = 16384, MOST_BOARD = BUCKET_WORDS * MOST_BUCKETS, HEAD = 3
 enum { FLOOR = 1, CALL = 2, TURNS = 3 };
 enum { MALFORMED = 8, SHEET_TOO_LONG = 9 };
 
-/* A line takes at most 24 bytes, and a call that ends has taken a field of 13 bytes and four turns or more: 16,384 bytes of sheet come
-   to less than 24 KiB of listing. */
-enum { MOST_LISTING = 32768 };
+/* A line takes at most 34 bytes, 20 of them for the answer, and a call that ends has taken a field of 13 bytes and four turns or more: 16,384
+   bytes of sheet come to less than 33 KiB of listing. */
+enum { MOST_LISTING = 36864 };
 
 static uint8_t sheet[LONGEST_SHEET + 1];
 static size_t length;
@@ -75,19 +75,25 @@ static uint8_t play_floor(const uint8_t *value, size_t size) {
     return opened.refusal;
 }
 
-static desk_outcome start(uint8_t kind, size_t worker, uint64_t lot, uint32_t ticket) {
+static desk_outcome start(uint8_t kind, size_t worker, uint64_t lot, uint64_t ticket) {
     desk_bid bid = {.lot = lot, .ticket = ticket};
     if (kind == LOOK) return plain_start_look(board, words, records, listed, floor, worker, lot);
     if (kind == REMOVE) return plain_start_remove(board, words, records, listed, floor, worker, lot);
     return plain_start_insert(board, words, records, listed, floor, worker, bid);
 }
 
+/* worker, kind and lot come first; behind them an insert has its ticket, in four bytes or in eight (§8.3) */
+enum { ASKED = 10, SHORT_TICKET = 4, LONG_TICKET = 8 };
+
+static bool call_fits(uint8_t kind, size_t size) {
+    if (kind == INSERT) return size == ASKED + SHORT_TICKET || size == ASKED + LONG_TICKET;
+    return (kind == LOOK || kind == REMOVE) && size == ASKED;
+}
+
+/* of a call that has no ticket no byte is left for one, which makes 0 */
 static uint8_t play_call(const uint8_t *value, size_t size) {
-    if (size != 10 && size != 14) return MALFORMED;
-    uint8_t kind = value[1];
-    if (kind < LOOK || kind > REMOVE || (kind == INSERT) != (size == 14)) return MALFORMED;
-    uint32_t ticket = kind == INSERT ? (uint32_t)number_at(value + 10, 4) : 0;
-    desk_outcome started = start(kind, value[0], number_at(value + 2, 8), ticket);
+    if (size < ASKED || !call_fits(value[1], size)) return MALFORMED;
+    desk_outcome started = start(value[1], value[0], number_at(value + 2, 8), number_at(value + ASKED, size - ASKED));
     floor = started.floor;
     return started.refusal;
 }

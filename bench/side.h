@@ -33,6 +33,9 @@ enum { IDLE = 0, LOOK = 1, INSERT = 2, REMOVE = 3, HOLDS_NONE = 3 };
 enum { MOST_IN_CLASS = 3, MOST_DEPTH = 24 };
 enum { INDEX_WORDS = 5, IN_WORD = 64 };
 
+/* the least number whose low half, of 32 bits, is 0 and that is not */
+#define HALF ((uint64_t)1 << 32)
+
 /* what stands past the end of what is lent must stay, so there is room for more than the rules allow */
 enum { SPARE_WORDS = 8, SPARE_RECORDS = 2, ROOM_WORDS = BUCKET_WORDS * (MOST_BUCKETS + 2), ROOM_RECORDS = MOST_WORKERS + 4 };
 enum { ROOM_INDEX = INDEX_WORDS + 3 };

@@ -28,7 +28,7 @@
 /* The number of this interface, for `#if`. It goes up by one when a program that was written for it has to be looked at again: a
    struct has another layout, a function takes or answers something else, a constant stands for something else. Whoever upgrades compares
    it with the number that his program was written for. It has nothing to do with the version in a mark word. */
-#define DESK_VERSION 6
+#define DESK_VERSION 7
 
 /* ---- numbers */
 
@@ -65,7 +65,8 @@ enum {
                                 be; the slot is past the last; a look has a word, or another call one that is no mark word. For all
                                 orders, and for a move, it can be any worker's record */
     DESK_BUSY_WORKER = 4,    /* a start for a worker whose last call has not ended */
-    DESK_SPENT_TICKET = 5,   /* an insert's ticket has to be greater than all before it; so 0 never is a ticket */
+    DESK_SPENT_TICKET = 5,   /* an insert's ticket has to be greater than all before it; so 0 never is a ticket, and after 2^64 - 1 there
+                                is none */
     DESK_IDLE_WORKER = 6,    /* a turn for a worker that has no call, or a retiring of one */
     DESK_BROKEN_BUCKET = 7,  /* the lot's bucket has a mark over 2, something above the marks, or a spare word that is not 0. For a
                                 retiring only where the worker holds a slot; for a count it can be any bucket; for all orders it is the
@@ -136,8 +137,10 @@ enum {
 typedef struct {
     size_t workers;   /* how many there are; also how many records are listed */
     size_t buckets;   /* how many the board has */
-    uint32_t last;    /* the ticket that an insert brought last; 0 before the first */
+    uint64_t last;    /* the ticket that an insert brought last; 0 before the first */
     uint32_t version; /* with which every bucket began when the floor was opened, and begins again on a board that the lots move to; any */
+    uint32_t spare;   /* nothing; 0 from an opening, and handed on as it is by every other call, so that no byte of a floor is left to
+                         chance */
 } desk_floor;
 
 /* What an opening asks for. */
@@ -150,16 +153,16 @@ typedef struct {
 /* What an insert brings. */
 typedef struct {
     uint64_t lot;    /* any, 0 too */
-    uint32_t ticket; /* greater than the floor's last */
+    uint64_t ticket; /* greater than the floor's last */
 } desk_bid;
 
-/* A worker's record. The library writes it; a caller can read it, and can keep one and put it back. The bytes past `held` are no part
-   of it: they can hold anything, before a call and after it, so two records are compared field by field. */
+/* A worker's record. The library writes it; a caller can read it, and can keep one and put it back. It has no bytes but those of its fields,
+   and neither have a floor and a bid. */
 typedef struct {
     uint64_t key;    /* the lot of its call */
     uint64_t word;   /* the mark word as an insert or a remove last read or swapped it; 0 in a look */
     uint64_t seen;   /* the ticket that it read in a slot, to be compared with a second reading or answered */
-    uint32_t ticket; /* what an insert brought; 0 in a look and a remove */
+    uint64_t ticket; /* what an insert brought; 0 in a look and a remove */
     uint32_t asleep; /* the turns that others have had since its start or its own last turn, whichever is later; it stays at 2^32 - 1.
                         0 in an idle record; a busy one is sound with any number here */
     uint8_t slot;    /* the slot that the call is at */
@@ -287,8 +290,9 @@ desk_turn_outcome desk_turn(uint64_t *board, size_t words, desk_worker *records,
    if it held none, its bucket is not looked at, and neither is the index, which else follows the bucket. Nothing else is touched; the
    floor stays as it is, and the ticket of a retired insert stays spent. A retiring is no turn: it reports nothing, is in no totals, and
    counts in nobody's `asleep`. On an opened board whoever is busy can be retired, and the mark word that the commit of a retired insert
-   would have expected never stands in its bucket again, however that board is used from then on. For a container that comes back after all
-   that is one lost swap, and no leave to go on with its old record: it begins a new call.
+   would have expected never stands in its bucket again, however that board is used from then on, while fewer than 2^32 inserts have been
+   accepted since it was opened or moved to: a version that has gone all the way round is the old one again. For a container that comes back
+   after all that is one lost swap, and no leave to go on with its old record: it begins a new call.
 
    Answers DESK_DONE, or why it is refused: DESK_WRONG_SIZES, DESK_NO_WORKER, DESK_BROKEN_RECORD, DESK_IDLE_WORKER, DESK_BROKEN_BUCKET and
    DESK_UNTRUE_INDEX are looked at in this order, the last two only where a slot is held. */

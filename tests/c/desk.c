@@ -1,7 +1,7 @@
 /* The library from C: every field where C reads it, the sleeper by single turns and by one run, a show and a count with the header's own
-   readers, what the screen shows of an insert turn by turn, who has been asleep (asleep.c), what is reported (reports.c), all orders
-   (orders.c), retirings (retire.c), the hall display (display.c), moves to another board (move.c), every refusal (refusals.c), and a full
-   round. Says what is not as it should be, and how many checks were made. */
+   readers, what the screen shows of an insert turn by turn, long tickets (tickets.c), who has been asleep (asleep.c), what is reported
+   (reports.c), all orders (orders.c), retirings (retire.c), the hall display (display.c), moves to another board (move.c), every refusal
+   (refusals.c), and a full round. Says what is not as it should be, and how many checks were made. */
 #include "hall.h"
 #include <stdio.h>
 
@@ -31,8 +31,8 @@ static void test_layout(void) {
 
     /* an insert that is about to store its key in slot 1: each field has a value of its own, and one turn leaves it in its place, but for
        `asleep`, which another's turn counts on */
-    desk_worker busy = {.key = 0x1122334455667701u, .word = 0x0000020000000007u, .seen = 0x99AA00BBCC00DDEEu, .ticket = 0x8899AABBu,
-                        .asleep = 0x24681357u, .kind = DESK_INSERT, .place = 8, .slot = 0, .held = 1};
+    desk_worker busy = {.key = 0x1122334455667701u, .word = 0x0000020000000007u, .seen = 0x99AA00BBCC00DDEEu,
+                        .ticket = 0x8899AABB43215678u, .asleep = 0x24681357u, .kind = DESK_INSERT, .place = 8, .slot = 0, .held = 1};
     one.records[1] = busy;
     desk_report stored = {.before = 0xFFFFFFFFu, .after = 0xFFFFFFFFu, .bucket = 1, .action = DESK_STORE};
     desk_turn_outcome t = turn(&one, 1);
@@ -48,10 +48,10 @@ static void test_layout(void) {
     CHECK(same_record(&one.records[1], &busy));
     one.records[0] = idle;
 
-    CHECK(start_insert(&one, 2, 0x0102030405060708u, 0xFFFFFFFFu) == DESK_DONE);
-    desk_worker inserts = {.key = 0x0102030405060708u, .ticket = 0xFFFFFFFFu, .kind = DESK_INSERT, .place = 1, .held = DESK_NO_SLOT};
+    CHECK(start_insert(&one, 2, 0x0102030405060708u, 0xF1E2D3C4B5A69788u) == DESK_DONE);
+    desk_worker inserts = {.key = 0x0102030405060708u, .ticket = 0xF1E2D3C4B5A69788u, .kind = DESK_INSERT, .place = 1, .held = DESK_NO_SLOT};
     CHECK(same_record(&one.records[2], &inserts));
-    CHECK(one.floor.workers == 3 && one.floor.buckets == 2 && one.floor.last == 0xFFFFFFFFu && one.floor.version == 0xFFFFFFFFu);
+    CHECK(one.floor.workers == 3 && one.floor.buckets == 2 && one.floor.last == 0xF1E2D3C4B5A69788u && one.floor.version == 0xFFFFFFFFu);
     CHECK(start_look(&one, 0, 5) == DESK_DONE);
     desk_worker looks = {.key = 5, .kind = DESK_LOOK, .place = 2, .held = DESK_NO_SLOT};
     CHECK(same_record(&one.records[0], &looks));
@@ -302,7 +302,7 @@ static void test_screen(void) {
 /* a fourth lot finds no slot: its tenth turn is a full round, and it begins again */
 static void test_full_round(void) {
     opened(&one, 1, 1, 0);
-    for (uint32_t ticket = 1; ticket <= 3; ticket++) {
+    for (uint64_t ticket = 1; ticket <= 3; ticket++) {
         CHECK(start_insert(&one, 0, 10 + ticket, ticket) == DESK_DONE);
         desk_report r = {0};
         for (unsigned i = 0; i < 20 && !r.ended; i++) r = turn(&one, 0).report;
@@ -338,7 +338,7 @@ static void ends_alone(hall *h, unsigned turns, unsigned most) {
 static void test_lengths(void) {
     opened(&one, 2, 1, 0);
     CHECK(start_insert(&one, 1, 5, 1) == DESK_DONE); /* worker 1 sleeps all the time */
-    for (uint32_t ticket = 2; ticket <= 4; ticket++) {
+    for (uint64_t ticket = 2; ticket <= 4; ticket++) {
         CHECK(start_insert(&one, 0, 5 + ticket, ticket) == DESK_DONE);
         ends_alone(&one, 9 + ticket, 13);
     }
@@ -376,6 +376,7 @@ int main(void) {
     test_buckets_of_lots();
     test_readers();
     test_screen();
+    test_tickets();
     test_asleep();
     test_reports();
     test_orders();

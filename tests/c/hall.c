@@ -18,7 +18,7 @@ bool same_record(const desk_worker *a, const desk_worker *b) {
 }
 
 bool same_floor(desk_floor a, desk_floor b) {
-    return a.workers == b.workers && a.buckets == b.buckets && a.last == b.last && a.version == b.version;
+    return a.workers == b.workers && a.buckets == b.buckets && a.last == b.last && a.version == b.version && a.spare == b.spare;
 }
 
 static bool same_index(const uint64_t *a, const uint64_t *b) {
@@ -51,10 +51,10 @@ void copy_hall(hall *to, const hall *from) {
 void fill(hall *h) {
     for (size_t i = 0; i < ROOM_FOR_WORDS; i++) h->board[i] = 0x5555555555555555u + i;
     for (size_t i = 0; i < ROOM_FOR_WORKERS; i++)
-        h->records[i] =
-            (desk_worker){.key = i, .word = 9, .seen = 9, .ticket = 9, .asleep = 9, .kind = 9, .place = 9, .slot = 9, .held = 9};
+        h->records[i] = (desk_worker){
+            .key = i, .word = 9, .seen = 9, .ticket = 0x0900000009u, .asleep = 9, .kind = 9, .place = 9, .slot = 9, .held = 9};
     for (size_t i = 0; i < ROOM_FOR_ENTRIES; i++) h->index[i] = 0x3333333333333333u + i;
-    h->floor = (desk_floor){.workers = 3, .buckets = 5, .last = 77, .version = 88};
+    h->floor = (desk_floor){.workers = 3, .buckets = 5, .last = 0x7700000077u, .version = 88, .spare = 99};
 }
 
 void opened(hall *h, size_t workers, size_t buckets, uint32_t version) {
@@ -63,6 +63,7 @@ void opened(hall *h, size_t workers, size_t buckets, uint32_t version) {
     h->listed = workers;
     h->entries = DESK_INDEX_WORDS;
     CHECK(open_hall(h, workers, buckets, version) == DESK_DONE);
+    h->floor.spare = 0x9ABCDEF0u;
 }
 
 /* keeps the floor that came back, which has to be this one if the call is done, and else the one that was given */
@@ -74,7 +75,7 @@ static uint8_t kept(hall *h, desk_outcome o, desk_floor done) {
 
 uint8_t open_hall(hall *h, size_t workers, size_t buckets, uint32_t version) {
     desk_plan plan = {.workers = workers, .buckets = buckets, .version = version};
-    desk_floor done = {.workers = workers, .buckets = buckets, .last = 0, .version = version};
+    desk_floor done = {.workers = workers, .buckets = buckets, .last = 0, .version = version, .spare = 0};
     return kept(h, desk_open_floor(h->board, h->words, h->records, h->listed, h->index, h->entries, h->floor, plan), done);
 }
 
@@ -82,7 +83,7 @@ uint8_t start_look(hall *h, size_t worker, uint64_t lot) {
     return kept(h, desk_start_look(h->board, h->words, h->records, h->listed, h->floor, worker, lot), h->floor);
 }
 
-uint8_t start_insert(hall *h, size_t worker, uint64_t lot, uint32_t ticket) {
+uint8_t start_insert(hall *h, size_t worker, uint64_t lot, uint64_t ticket) {
     desk_bid bid = {.lot = lot, .ticket = ticket};
     desk_floor done = h->floor;
     done.last = ticket;

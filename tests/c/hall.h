@@ -1,5 +1,5 @@
 /* A hall: a floor with the board, the records and the index that belong to it, and the library's calls on it. For the program that checks
-   them, which is desk.c, asleep.c, reports.c, orders.c, retire.c, display.c, move.c and refusals.c. */
+   them, which is desk.c, tickets.c, asleep.c, reports.c, orders.c, retire.c, display.c, move.c and refusals.c. */
 #ifndef HALL_H
 #define HALL_H
 
@@ -37,7 +37,8 @@ void copy_hall(hall *to, const hall *from);
 
 /* Puts something into every word, record, entry and the floor that an opening has to clear and no other call may touch. */
 void fill(hall *h);
-/* A hall that was filled and then opened. */
+/* A hall that was filled and then opened. In the floor's spare, where the opening has left 0, is another number then: every other call has to
+   hand on what it finds there, whatever it is (§2.1). */
 void opened(hall *h, size_t workers, size_t buckets, uint32_t version);
 
 /* Whether a record is busy and not broken: a start for its worker is then refused by 4. */
@@ -59,7 +60,7 @@ size_t below(size_t bound);
    to changing nothing where it is refused; and all orders to changing nothing. */
 uint8_t open_hall(hall *h, size_t workers, size_t buckets, uint32_t version);
 uint8_t start_look(hall *h, size_t worker, uint64_t lot);
-uint8_t start_insert(hall *h, size_t worker, uint64_t lot, uint32_t ticket);
+uint8_t start_insert(hall *h, size_t worker, uint64_t lot, uint64_t ticket);
 uint8_t start_remove(hall *h, size_t worker, uint64_t lot);
 desk_turn_outcome turn(hall *h, size_t worker);
 desk_run_outcome run(hall *h, const uint8_t *turns, size_t count);
@@ -94,7 +95,8 @@ bool counts(desk_run_outcome r, uint32_t turns, uint32_t changes, uint32_t lost,
 /* Whether all orders came to these numbers, and were not refused. */
 bool walked(desk_orders_outcome o, uint64_t finished, uint64_t cut, uint64_t lost, uint64_t most);
 
-/* The checks of asleep.c, of reports.c, of orders.c, of retire.c, of display.c, of move.c and of refusals.c. */
+/* The checks of tickets.c, of asleep.c, of reports.c, of orders.c, of retire.c, of display.c, of move.c and of refusals.c. */
+void test_tickets(void);
 void test_asleep(void);
 void test_reports(void);
 void test_orders(void);

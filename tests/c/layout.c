@@ -7,22 +7,24 @@
 #define SIZE(type, bytes) HOLDS(size_of_##type, sizeof(type) == (bytes))
 #define AT(type, field, byte) HOLDS(type##_has_##field, offsetof(type, field) == (byte))
 #define IS(constant, number) HOLDS(constant##_is, (constant) == (number))
+#define BYTES(type, field) sizeof(((type *)0)->field)
 
 SIZE(desk_worker, 40);
 AT(desk_worker, key, 0);
 AT(desk_worker, word, 8);
 AT(desk_worker, seen, 16);
 AT(desk_worker, ticket, 24);
-AT(desk_worker, asleep, 28);
-AT(desk_worker, slot, 32);
-AT(desk_worker, kind, 33);
-AT(desk_worker, place, 34);
-AT(desk_worker, held, 35);
-SIZE(desk_floor, 24);
+AT(desk_worker, asleep, 32);
+AT(desk_worker, slot, 36);
+AT(desk_worker, kind, 37);
+AT(desk_worker, place, 38);
+AT(desk_worker, held, 39);
+SIZE(desk_floor, 32);
 AT(desk_floor, workers, 0);
 AT(desk_floor, buckets, 8);
 AT(desk_floor, last, 16);
-AT(desk_floor, version, 20);
+AT(desk_floor, version, 24);
+AT(desk_floor, spare, 28);
 SIZE(desk_plan, 24);
 AT(desk_plan, workers, 0);
 AT(desk_plan, buckets, 8);
@@ -30,9 +32,9 @@ AT(desk_plan, version, 16);
 SIZE(desk_bid, 16);
 AT(desk_bid, lot, 0);
 AT(desk_bid, ticket, 8);
-SIZE(desk_outcome, 32);
+SIZE(desk_outcome, 40);
 AT(desk_outcome, floor, 0);
-AT(desk_outcome, refusal, 24);
+AT(desk_outcome, refusal, 32);
 SIZE(desk_report, 40);
 AT(desk_report, answer, 0);
 AT(desk_report, before, 8);
@@ -73,7 +75,20 @@ AT(desk_orders_outcome, lost, 16);
 AT(desk_orders_outcome, most, 24);
 AT(desk_orders_outcome, refusal, 32);
 
-IS(DESK_VERSION, 6);
+/* a ticket is as long in one of these as in another, and as long as an answer and a value on the board (§3.2, §3.5) */
+HOLDS(tickets_of_records, BYTES(desk_worker, ticket) == sizeof(uint64_t));
+HOLDS(tickets_of_floors, BYTES(desk_floor, last) == sizeof(uint64_t));
+HOLDS(tickets_of_bids, BYTES(desk_bid, ticket) == sizeof(uint64_t));
+
+/* no byte of a record, a floor or a bid is left to chance (§2.1): each has just those of its fields */
+HOLDS(records_have_no_padding, BYTES(desk_worker, key) + BYTES(desk_worker, word) + BYTES(desk_worker, seen) + BYTES(desk_worker, ticket) +
+    BYTES(desk_worker, asleep) + BYTES(desk_worker, slot) + BYTES(desk_worker, kind) + BYTES(desk_worker, place) +
+    BYTES(desk_worker, held) == sizeof(desk_worker));
+HOLDS(floors_have_no_padding, BYTES(desk_floor, workers) + BYTES(desk_floor, buckets) + BYTES(desk_floor, last) +
+    BYTES(desk_floor, version) + BYTES(desk_floor, spare) == sizeof(desk_floor));
+HOLDS(bids_have_no_padding, BYTES(desk_bid, lot) + BYTES(desk_bid, ticket) == sizeof(desk_bid));
+
+IS(DESK_VERSION, 7);
 IS(DESK_MOST_WORKERS, 64);
 IS(DESK_MOST_BUCKETS, 256);
 IS(DESK_MOST_TURNS, 65535);

@@ -200,20 +200,23 @@ static void test_versions(void) {
 
 /* ---- tickets that are spent stay spent */
 
-static void tickets_after(uint32_t last) {
+static void tickets_after(uint64_t last) {
     opened(&one, 2, 4, 9);
     CHECK(start_insert(&one, 1, 6, last) == DESK_DONE && ends(&one, 1) == 1 && removed(&one, 6) == last);
     CHECK(move(&one, &two, 8) == DESK_DONE && two.floor.last == last);
     CHECK(start_insert(&two, 0, 6, last) == DESK_SPENT_TICKET && start_insert(&two, 0, 6, 0) == DESK_SPENT_TICKET);
-    if (last == UINT32_MAX) return;
+    if (last == UINT64_MAX) return;
     CHECK(start_insert(&two, 0, 6, last + 1) == DESK_DONE && ends(&two, 0) == 1 && has(&two, 6, 0, 6, last + 1));
 }
 
-static void test_tickets(void) {
+static void test_spent_tickets(void) {
     tickets_after(1);
     tickets_after(41);
-    tickets_after(0xFFFFFFFEu);
     tickets_after(0xFFFFFFFFu);
+    tickets_after(0x100000000u);
+    tickets_after(0x8765432100000000u);
+    tickets_after(UINT64_MAX - 1);
+    tickets_after(UINT64_MAX);
 }
 
 /* ---- play goes on, and the old board is what it was */
@@ -536,7 +539,7 @@ void test_move(void) {
     test_lot_zero();
     test_remainders();
     test_versions();
-    test_tickets();
+    test_spent_tickets();
     test_play_goes_on();
     test_two_boards();
     test_to_and_fro();

@@ -96,7 +96,7 @@ static void turns_of(hall *h, size_t worker, unsigned turns) {
 }
 
 /* worker 0 inserts a lot, alone */
-static void stands(hall *h, uint64_t lot, uint32_t ticket) {
+static void stands(hall *h, uint64_t lot, uint64_t ticket) {
     CHECK(start_insert(h, 0, lot, ticket) == DESK_DONE);
     for (unsigned i = 0; i < 13 && h->records[0].kind != DESK_IDLE; i++) turns_of(h, 0, 1);
     CHECK(h->records[0].kind == DESK_IDLE);
@@ -119,7 +119,7 @@ static void test_alone(void) {
     CHECK(start_look(&one, 0, 7) == DESK_DONE);
     for (size_t depth = 1; depth <= DESK_MOST_DEPTH; depth++) CHECK(walked(ordered(&one, depth), depth >= 6, depth < 6, 0, 0));
     opened_class(&one, 1);
-    for (uint32_t lot = 1; lot <= DESK_SLOTS; lot++) stands(&one, lot, lot);
+    for (uint64_t lot = 1; lot <= DESK_SLOTS; lot++) stands(&one, lot, lot);
     CHECK(start_insert(&one, 0, 7, 4) == DESK_DONE);
     for (size_t depth = 1; depth <= DESK_MOST_DEPTH; depth++) CHECK(walked(ordered(&one, depth), 0, 1, 0, 0));
 }
@@ -262,17 +262,20 @@ static void test_small_class(void) {
 
 /* what makes a record broken, one thing in each; the others of the class are sound, or idle */
 static void test_broken_in_class(void) {
-    uint64_t no_mark_word = 3ull << 40;
+    uint64_t no_mark_word = 3ull << 40, low_half_0 = 1ull << 32;
     const desk_worker broken[] = {
         {.kind = 4, .place = 2, .held = 3},
         {.held = 0},
         {.held = 3, .seen = 1},
         {.held = 3, .asleep = 1},
         {.held = 3, .asleep = UINT32_MAX},
+        {.held = 3, .ticket = 1},
+        {.held = 3, .ticket = low_half_0},
         {.kind = DESK_LOOK, .place = 1, .held = 3},
         {.kind = DESK_LOOK, .place = 6, .held = 3},
         {.kind = DESK_LOOK, .place = 2, .slot = 3, .held = 3},
         {.kind = DESK_LOOK, .place = 2, .held = 3, .ticket = 1},
+        {.kind = DESK_LOOK, .place = 2, .held = 3, .ticket = low_half_0},
         {.kind = DESK_LOOK, .place = 2, .held = 3, .word = 1},
         {.kind = DESK_LOOK, .place = 2, .held = 2},
         {.kind = DESK_INSERT, .place = 11, .held = 2, .ticket = 1},
@@ -284,6 +287,7 @@ static void test_broken_in_class(void) {
         {.kind = DESK_REMOVE, .place = 10, .held = 3},
         {.kind = DESK_REMOVE, .place = 14, .held = 3},
         {.kind = DESK_REMOVE, .place = 13, .held = 3, .ticket = 1},
+        {.kind = DESK_REMOVE, .place = 13, .held = 3, .ticket = low_half_0},
         {.kind = DESK_REMOVE, .place = 13, .held = 1},
         {.kind = DESK_REMOVE, .place = 13, .held = 3, .word = 1ull << 56},
     };

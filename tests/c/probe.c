@@ -1,15 +1,15 @@
 /* The probe: reads a stream of cases, each any floor, any board, any records, any index, any second board and a call with any numbers, makes
    the library's call, and writes for each what came back and everything that stands afterwards; also where the library wrote outside of what
-   it was lent.
-   tests/reference/README.md has the form of a case and of a line. */
+   it was lent, or did not hand on the floor's spare. tests/reference/README.md has the form of a case and of a line. */
 #include "desk.h"
 #include <stdio.h>
 #include <string.h>
 
 /* a body; two buckets more than a board can have; as many records more than a list can have as a byte has values; eight words more than an
-   index has; some turns more than a run may have; and how much stands on both sides of each board, of the list and of the index, and of
-   which byte */
+   index has; some turns more than a run may have; how much stands on both sides of each board, of the list and of the index, and of which
+   byte; and what is in the spare of every floor that is given, of which cases say nothing */
 enum { LONGEST = 65535, MOST_WORDS = 2064, MOST_RECORDS = 320, MOST_ENTRIES = 13, MOST_TURNS = 65540, FENCE = 8, POST = 0xa5 };
+enum { SPARE = 0x5a3c96e1 };
 
 static uint8_t body[LONGEST], turns[MOST_TURNS];
 static size_t length, next, count;
@@ -19,6 +19,7 @@ static uint64_t fenced_index[FENCE + MOST_ENTRIES + FENCE], *const display = fen
 static uint64_t fenced_second[FENCE + MOST_WORDS + FENCE], *const second = fenced_second + FENCE;
 static size_t words, listed, entries, second_words;
 static desk_floor floor;
+static uint32_t spare; /* that the floor has to have after the call */
 
 /* ---- a case out of its bytes; those that it does not have read as 0 */
 
@@ -60,7 +61,7 @@ static desk_worker read_record(void) {
     w.kind = (uint8_t)number();
     w.place = (uint8_t)number();
     w.key = number();
-    w.ticket = (uint32_t)number();
+    w.ticket = number();
     w.slot = (uint8_t)number();
     w.word = number();
     w.held = (uint8_t)number();
@@ -126,6 +127,13 @@ static void check_fence(void) {
     }
 }
 
+/* no call goes by the spare, and each hands it on (§2.1) */
+static void check_spare(void) {
+    if (floor.spare != spare) {
+        printf(" the floor has spare %x and not %x", floor.spare, spare);
+    }
+}
+
 /* ---- the line */
 
 static void number_out(const char *before, uint64_t n) {
@@ -159,7 +167,7 @@ static void records_out(void) {
         const desk_worker *w = &records[i];
         for (end = i + 1; end < listed && alike(&records[end], w); end++) {
         }
-        printf(" %x.%x.%lx.%x.%x.%lx.%x.%lx.%x", w->kind, w->place, w->key, w->ticket, w->slot, w->word, w->held, w->seen, w->asleep);
+        printf(" %x.%x.%lx.%lx.%x.%lx.%x.%lx.%x", w->kind, w->place, w->key, w->ticket, w->slot, w->word, w->held, w->seen, w->asleep);
         times_out(end - i);
     }
 }
@@ -169,6 +177,14 @@ static void records_out(void) {
 static void outcome(const char *name, desk_outcome o) {
     printf("%s %x", name, o.refusal);
     floor = o.floor;
+}
+
+/* only an opening that is done leaves another spare than the one that it was given */
+static void open_outcome(desk_outcome o) {
+    outcome("open", o);
+    if (o.refusal == DESK_DONE) {
+        spare = 0;
+    }
 }
 
 static void report_out(desk_report r) {
@@ -214,12 +230,11 @@ static void move_outcome(size_t buckets) {
 }
 
 /* the number of the worker is the depth, where all orders are asked for; where the next occupied bucket is, the one to begin with; and of a
-   move how many buckets there are to be */
-static void call(unsigned which, uint64_t worker, uint64_t lot, uint32_t ticket) {
+   move how many buckets there are to be. An opening has its version in the low half of the ticket. */
+static void call(unsigned which, uint64_t worker, uint64_t lot, uint64_t ticket) {
+    desk_plan plan = {worker, lot, (uint32_t)ticket};
     switch (which) {
-    case 0:
-        outcome("open", desk_open_floor(board, words, records, listed, display, entries, floor, (desk_plan){worker, lot, ticket}));
-        break;
+    case 0: open_outcome(desk_open_floor(board, words, records, listed, display, entries, floor, plan)); break;
     case 1: outcome("look", desk_start_look(board, words, records, listed, floor, worker, lot)); break;
     case 2: outcome("insert", desk_start_insert(board, words, records, listed, floor, worker, (desk_bid){lot, ticket})); break;
     case 3: outcome("remove", desk_start_remove(board, words, records, listed, floor, worker, lot)); break;
@@ -243,10 +258,10 @@ int main(void) {
         unsigned which = (unsigned)byte() % 13;
         floor.workers = number();
         floor.buckets = number();
-        floor.last = (uint32_t)number();
+        floor.last = number();
         floor.version = (uint32_t)number();
-        uint64_t worker = number(), lot = number();
-        uint32_t ticket = (uint32_t)number();
+        floor.spare = spare = SPARE;
+        uint64_t worker = number(), lot = number(), ticket = number();
         words = read_words(board, MOST_WORDS);
         read_records();
         entries = read_words(display, MOST_ENTRIES);
@@ -254,11 +269,12 @@ int main(void) {
         read_turns();
         fence();
         call(which, worker, lot, ticket);
-        printf(" | %lx %lx %x %x", floor.workers, floor.buckets, floor.last, floor.version);
+        printf(" | %lx %lx %lx %x", floor.workers, floor.buckets, floor.last, floor.version);
         words_out(board, words);
         records_out();
         words_out(display, entries);
         check_fence();
+        check_spare();
         printf("\n");
     }
     return fflush(stdout);

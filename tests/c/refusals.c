@@ -130,11 +130,11 @@ static void test_workers(void) {
     for (size_t i = 0; i < sizeof nobody / sizeof nobody[0]; i++) REFUSED(DESK_NO_WORKER, retire(&one, nobody[i]));
 }
 
-/* a record that is idle but for the turns that it counts (§20.1), the last of three */
-static void idle_and_asleep(uint32_t asleep) {
+/* a record that is no call's and not idle (§3.3), the last of three */
+static void nearly_idle(desk_worker w) {
     uint8_t third = 2;
     opened(&one, 3, 1, 9);
-    one.records[2].asleep = asleep;
+    one.records[2] = w;
     REFUSED(DESK_BROKEN_RECORD, start_look(&one, 2, 7));
     REFUSED(DESK_BROKEN_RECORD, start_insert(&one, 2, 7, 0));
     REFUSED(DESK_BROKEN_RECORD, start_remove(&one, 2, 7));
@@ -143,8 +143,22 @@ static void idle_and_asleep(uint32_t asleep) {
     REFUSED(DESK_BROKEN_RECORD, retire(&one, 2));
     REFUSED(DESK_BROKEN_RECORD, refused_orders(1));
     REFUSED(DESK_BROKEN_RECORD, move(&one, &two, 1));
-    one.records[2].asleep = 0;
+    one.records[2] = desk_idle_record();
     CHECK(start_look(&one, 2, 7) == DESK_DONE);
+}
+
+/* one that is idle but for the turns that it counts (§20.1) */
+static void idle_and_asleep(uint32_t asleep) {
+    desk_worker w = desk_idle_record();
+    w.asleep = asleep;
+    nearly_idle(w);
+}
+
+/* and one that is idle but for a ticket, of which either half can be 0 */
+static void idle_with_ticket(uint64_t ticket) {
+    desk_worker w = desk_idle_record();
+    w.ticket = ticket;
+    nearly_idle(w);
 }
 
 static void test_records(void) {
@@ -165,6 +179,11 @@ static void test_records(void) {
     REFUSED(DESK_BROKEN_RECORD, refused_run(&second, 1));
     idle_and_asleep(1);
     idle_and_asleep(UINT32_MAX);
+    idle_with_ticket(1);
+    idle_with_ticket(UINT32_MAX);
+    idle_with_ticket(1ull << 32);
+    idle_with_ticket(1ull << 63);
+    idle_with_ticket(UINT64_MAX);
 }
 
 /* the worker busy or idle, the ticket, the length of a run; and then the bucket, of which a start asks nothing */
@@ -325,9 +344,11 @@ static void test_stops(void) {
     stops(DESK_UNTRUE_INDEX, 2);
 }
 
-static desk_outcome open_nothing(uint64_t *board, size_t words, desk_worker *records, size_t listed, uint64_t *index, size_t entries) {
+static void open_nothing(uint64_t *board, size_t words, desk_worker *records, size_t listed, uint64_t *index, size_t entries) {
     desk_plan plan = {.workers = listed, .buckets = words / DESK_BUCKET_WORDS, .version = 0};
-    return desk_open_floor(board, words, records, listed, index, entries, one.floor, plan);
+    desk_outcome o = {.refusal = DESK_DONE};
+    REFUSED(DESK_WRONG_SIZES, (o = desk_open_floor(board, words, records, listed, index, entries, one.floor, plan)).refusal);
+    CHECK(same_floor(o.floor, one.floor));
 }
 
 static void move_nothing(const uint64_t *old, size_t had, uint64_t *board, size_t words, const desk_worker *records, size_t listed,
@@ -343,10 +364,10 @@ static void test_nothing(void) {
     desk_floor none = {0};
     opened(&one, 2, 1, 9);
     REFUSED(DESK_DONE, refused_run(NULL, 0));
-    REFUSED(DESK_WRONG_SIZES, open_nothing(NULL, 0, one.records, 2, one.index, 5).refusal);
-    REFUSED(DESK_WRONG_SIZES, open_nothing(one.board, 8, NULL, 0, one.index, 5).refusal);
-    REFUSED(DESK_WRONG_SIZES, open_nothing(one.board, 8, one.records, 2, NULL, 0).refusal);
-    REFUSED(DESK_WRONG_SIZES, open_nothing(NULL, 0, NULL, 0, NULL, 0).refusal);
+    open_nothing(NULL, 0, one.records, 2, one.index, 5);
+    open_nothing(one.board, 8, NULL, 0, one.index, 5);
+    open_nothing(one.board, 8, one.records, 2, NULL, 0);
+    open_nothing(NULL, 0, NULL, 0, NULL, 0);
     CHECK(desk_start_look(NULL, 0, NULL, 0, none, 0, 7).refusal == DESK_WRONG_SIZES);
     desk_turn_outcome t = desk_turn(NULL, 0, NULL, 0, NULL, 0, none, 0);
     CHECK(t.refusal == DESK_WRONG_SIZES && same_report(t.report, refused_report));

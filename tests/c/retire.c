@@ -32,7 +32,7 @@ static void after_turns(uint32_t version, uint8_t kind, unsigned turns, bool hol
     start_call(&one, 0, kind, 9);
     turns_of(&one, 0, turns);
     CHECK((one.records[0].held != DESK_NO_SLOT) == holds);
-    uint32_t last = one.floor.last;
+    uint64_t last = one.floor.last;
     CHECK(retire(&one, 0) == DESK_DONE);
     CHECK(one.board[8] == 0x0000000100000000u + (uint32_t)(version + 1 + holds));
     CHECK(turn(&one, 0).refusal == DESK_IDLE_WORKER && retire(&one, 0) == DESK_IDLE_WORKER);

@@ -4,10 +4,9 @@ use Prim.Native.Nat.{ℕ, _≤_}
 use mathlib.Core.List.{List, [], _∷_, _++_}
 use mathlib.Core.Logic.{inl, inr}
 use mathlib.Core.Path.{_≡_, refl, sym, ap, _∙_}
-use native.Mathlib.Omega.{arith}
 use lib.ListN.{take}
 use Rattle.turn.specs.declared.Worker.{Worker}
-use Rattle.turn.specs.declared.Progress.the-variants.{GoesOn, Ended}
+use Rattle.turn.specs.declared.Progress.the-variants.{Ended}
 use Rattle.turn.specs.declared.Stepped.{Stepped}
 use Rattle.turn.specs.Bucket.{valueCell}
 use Rattle.turn.proofs.Outcomes.{Empty, Did, reads, loses, stores-value, stores-key, claims, commits, frees, closes}
@@ -25,7 +24,7 @@ use Rattle.clerk.proofs.Leads.{Leads, reads-leads}
 use Rattle.clerk.proofs.Leads as leads
 use Rattle.clerk.proofs.ListAfter.{asks-look, asks-insert, asks-remove}
 use Rattle.clerk.proofs.Listed.{look-there, look-none, insert-there, remove-none, listed-once}
-use Rattle.clerk.proofs.Enumerated.{one-answer}
+use Rattle.clerk.proofs.Enumerated.{one-answer, goes-not}
 use Rattle.clerk.proofs.Sometime.{Sometime, sometime-on, sometime-then}
 use Rattle.clerk.proofs.Deals.{Deals, nothing, comes, goes, turn-deals}
 use Rattle.clerk.proofs.Knows.{has-back, Knowing}
@@ -38,10 +37,6 @@ use Rattle.clerk.proofs.Ahead.{Ahead, not-vain, not-last}
 use Rattle.clerk.proofs.Zero.{MissedSince, Missing, Before, own-before, absent-now}
 use Rattle.clerk.proofs.Zero as before
 use Rattle.clerk.proofs.Steps.{Sized, own-did}
-
--- a call that goes on has not ended
-goes-not : {A : Type 0} {answer : ℕ} → GoesOn ≡ Ended answer → A
-goes-not is = absurd (let z : _≡_ {A = ℕ} 0 1 = cc in omega arith)
 
 module _
     (n : ℕ) {s t : State} {e : Turn} (past : List Entry) (sized : Sized n s) (act : Turns s e t) (known : Known s) (then : Known t)

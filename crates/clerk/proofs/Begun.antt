@@ -12,7 +12,8 @@ use Rattle.turn.specs.Worker.{idle}
 use Rattle.history.specs.Trace.{Turn, Retiring, Entry, acted, retired, Continues}
 use Rattle.history.specs.History.{State, recordOf}
 use Rattle.history.proofs.Numbered.{answered-ends}
-use Rattle.history.proofs.Steps.{StartOf, of-look, of-insert, of-remove, Begins, Turns, Retires, stepOf}
+use Rattle.history.proofs.Starting.{StartOf, of-look, of-insert, of-remove}
+use Rattle.history.proofs.Steps.{Begins, Turns, Retires, stepOf}
 use Rattle.history.proofs.Account.{ended-idle, goes-busy, still-on}
 use Rattle.clerk.proofs.Since.{firstOr, first-or-some, since, since-other, since-goes, since-ends, since-within}
 use Rattle.clerk.proofs.Steps.{busy-kind, each-turn, each-retiring, each-start}

@@ -53,6 +53,10 @@ callsOf trace = callsFrom [] trace
 pub one-answer : (a b : ℕ) → Ended a ≡ Ended b → a ≡ b
 one-answer a b is = cc
 
+-- a call that goes on has not ended
+pub goes-not : {A : Type 0} {answer : ℕ} → GoesOn ≡ Ended answer → A
+goes-not is = absurd (let z : _≡_ {A = ℕ} 0 1 = cc in omega arith)
+
 -- the calls that turns and more of them end are those that the first end, and those that the rest end after them
 pub calls-append : (xs past ys : List Entry) → callsFrom past (xs ++ ys) ≡ callsFrom past xs ++ callsFrom (past ++ xs) ys
 calls-append [] past ys = ap (λ (l : List Entry). callsFrom l ys) (sym (append-nil past))

@@ -17,7 +17,8 @@ use Rattle.history.specs.History.{State, recordOf}
 use Rattle.history.specs.Cells.{cellsAt, markWordAt, markAt, home}
 use Rattle.history.specs.Values.{valueAt}
 use Rattle.history.proofs.View.{Aware}
-use Rattle.history.proofs.Steps.{StartOf, of-look, of-insert, of-remove, Begins, Turns, Retires, stepOf}
+use Rattle.history.proofs.Starting.{StartOf, of-look, of-insert, of-remove}
+use Rattle.history.proofs.Steps.{Begins, Turns, Retires, stepOf}
 use Rattle.history.proofs.Account.{still-on}
 use Rattle.history.proofs.Cells.{Known}
 use Rattle.clerk.proofs.Rows.{Rows, silent, rowAt, _▹_, among-first, Follow, follow}

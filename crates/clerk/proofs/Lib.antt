@@ -1,7 +1,10 @@
 -- the statement, and what is computed of it
 pub mod TheClerk
+pub mod TheAccounts
 pub mod Played
 -- what holds all the time, and that every step keeps it: the clauses
+pub mod Told
+pub mod Assured
 pub mod Standing
 pub mod Stood
 pub mod Recalls

@@ -4,7 +4,7 @@ use Prim.Native.Nat.{ℕ, _+_}
 use mathlib.Core.Bool.{Bool, true, false, cond, _||_}
 use mathlib.Core.List.{List, [], _∷_}
 use mathlib.Core.Logic.{inl, inr}
-use mathlib.Core.Path.{_≡_, refl, sym, ap, ap₂, subst, _∙_}
+use mathlib.Core.Path.{_≡_, refl, sym, ap, ap₂, _∙_}
 use native.Mathlib.Omega.{arith}
 use lib.Dec.{eqb}
 use lib.ListN.{length}
@@ -12,7 +12,7 @@ use borrow.Author.Tests.{eq-eqb, ne-eqb, eqb-false}
 use Rattle.mark.proofs.Choices.{not-both}
 use Rattle.engine.specs.Move.{Line}
 use Rattle.history.specs.Trace.{Entry, wasOf, IsTurn}
-use Rattle.clerk.specs.Does.{line, Asked, look, insert, remove, Told, told, isIn, ticketIn, without, does, TellsChange}
+use Rattle.clerk.specs.Does.{line, Asked, look, insert, remove, told, isIn, ticketIn, without, does}
 use Rattle.clerk.specs.Calls.{Settles, isSettled, asks, doneBy, listFrom, listAfter}
 use Rattle.walks.specs.Lists.{Each, In, Ordered}
 use Rattle.walks.proofs.Lists.{each-then, each-in}
@@ -69,7 +69,7 @@ module _ (lot : ℕ) where
   without-none (l ∷ list) all = rw (ne-eqb (l .lot) lot (all .0)) (ap (λ (rest : List Line). l ∷ rest) (without-none list (all .1)))
 
   -- what holds of each line holds of each that is left when a lot is struck
-  without-each : (P : Line → Type 0) (list : List Line) → Each P list → Each P (without lot list)
+  pub without-each : (P : Line → Type 0) (list : List Line) → Each P list → Each P (without lot list)
   without-each P [] all = tt
   without-each P (l ∷ list) all = by (eqb (l .lot) lot) (without-each P list (all .1))
     where
@@ -168,19 +168,6 @@ module _ (list : List Line) where
   -- a remove of a lot that is not there tells 0, and the list stays
   pub remove-none : (lot : ℕ) → Each (NotOf lot) list → does (remove lot) list ≡ told 0 list
   remove-none lot none = ap₂ told (ticket-none lot list none) (without-none lot list none)
-
--- an answer that the clerk gives and leaves the list tells of no change
-pub quiet-tells : (a : Asked) (list : List Line) (answer : ℕ) → does a list ≡ told answer list → TellsChange a answer → ⊥
-quiet-tells (look lot) list answer is changes = changes
-quiet-tells (insert lot ticket) list answer is changes = by (isIn lot list) is
-  where
-    by : (t : Bool) → cond t (told 0 list) (told 1 (line lot ticket ∷ list)) ≡ told answer list → ⊥
-    by true same = omega (arith, ap (λ (x : Told). x .answer) same)
-    by false same = omega (arith, ap (λ (x : Told). length (x .list)) same)
-quiet-tells (remove lot) list answer is changes =
-    let none = not-in-lot lot list (λ ticket there.
-    without-was lot (line lot ticket) list (subst (In (line lot ticket)) (sym (ap (λ (x : Told). x .list) is)) there) .1 refl) in
-    omega (arith, ap (λ (x : Told). x .answer) is, ticket-none lot list none)
 
 -- ---- no lot twice
 

@@ -18,13 +18,12 @@ use Rattle.history.specs.Values.{valueAt}
 use Rattle.history.specs.Cells.{cellsAt, markAt, keyAt}
 use Rattle.history.proofs.Steps.{Begins, Turns, Retires}
 use Rattle.history.proofs.Cells.{Known}
-use Rattle.clerk.specs.Does.{line, Asked, Told, told, does, without, TellsChange}
+use Rattle.clerk.specs.Does.{line, Asked, Told, told, does, without}
 use Rattle.clerk.specs.Calls.{asks, Settles, listAfter}
 use Rattle.walks.specs.Lists.{Each, In}
 use Rattle.clerk.proofs.Counts.{count-more, count-same}
 use Rattle.clerk.proofs.ListAfter.{asks-insert, asks-remove, list-settled, list-quiet}
 use Rattle.clerk.proofs.Listed.{NotOf, not-in-lot, insert-none, remove-there, without-has, without-was, without-length, listed-once}
-use Rattle.clerk.proofs.Enumerated.{one-answer}
 use Rattle.clerk.proofs.Deals.{SameSlot, same-slots, same-back, Commit, Close, no-commit-closes, Deals, nothing, comes, goes, turn-deals, retiring-slots}
 use Rattle.clerk.proofs.Fates.{From, old, new, Fate, stays, closed, valid-from, valid-then}
 use Rattle.clerk.proofs.Knows.{HasLot, has-on, Knowing}
@@ -157,11 +156,6 @@ module _
     pub commit-answers : e .report .progress ≡ Ended (does (asks w) list .answer)
     commit-answers = did .ends ∙ ap (λ (x : Told). Ended (x .answer)) (sym commit-told)
 
-    -- a commit's answer tells that it changed the list
-    pub commit-tells : (a : ℕ) → e .report .progress ≡ Ended a → TellsChange (asks w) a
-    commit-tells a is =
-        subst (λ (x : Asked). TellsChange x a) (sym (asks-insert w (did .holder .kind))) (one-answer a 1 (sym is ∙ did .ends))
-
     commit-list : listAfter now ≡ added ∷ list
     commit-list = list-settled past (acted e) (inl commit) ∙ ap (λ (x : Told). x .list) commit-told
 
@@ -208,13 +202,6 @@ module _
     -- a close ends with the clerk's answer
     pub close-answers : e .report .progress ≡ Ended (does (asks w) list .answer)
     close-answers = did .ends ∙ ap (λ (x : Told). Ended (x .answer)) (sym close-told)
-
-    -- a close's answer tells that it changed the list
-    pub close-tells : (a : ℕ) → e .report .progress ≡ Ended a → TellsChange (asks w) a
-    close-tells a is =
-        let ticket = known .cells .valid (bucketOf (w .key) n) (w .slot) (found .0 .0) .ticket in
-        subst (λ (x : Asked). TellsChange x a) (sym (asks-remove w (did .remover .kind)))
-        (omega (arith, one-answer a (w .seen) (sym is ∙ did .ends), found .1, ticket))
 
     close-list : listAfter now ≡ without (w .key) list
     close-list = list-settled past (acted e) (inr close) ∙ ap (λ (x : Told). x .list) close-told

@@ -7,14 +7,11 @@ use mathlib.Core.Logic.{inl, inr}
 use mathlib.Core.Path.{_≡_, refl, ap, subst}
 use native.Mathlib.Omega.{arith}
 use lib.ListN.{take}
-use Rattle.engine.specs.Refusals as Refusals
-use Rattle.engine.specs.Board as Board
-use Rattle.engine.specs.Move as Move
-use Rattle.hall.specs.Refusals as Hall
-use Rattle.hall.specs.Calls as HallCalls
-use Rattle.history.specs.History.{Opening, Call, bucketsOf, opened, trace}
+use Rattle.history.specs.History.{Opening, Call, bucketsOf, opened, trace, FewInserts}
 use Rattle.history.specs.Moves.{moveNumberOf, stateThrough, traceThrough}
 use Rattle.history.specs.Trials.{sleeper, repeatedWord}
+use Rattle.history.proofs.Paid.{few-steps}
+use Rattle.history.proofs.MovesReached.{moving}
 use Rattle.history.proofs.Reached.{twoWorkers, threeWorkers, computed}
 use Rattle.clerk.specs.Does.{Told, line, look, does}
 use Rattle.clerk.specs.Calls.{EndedCall, IsCallOf, IsMomentOf, listAfter}
@@ -32,33 +29,36 @@ use Rattle.clerk.proofs.TheClerk.{in-sequence}
 -- where the sequence of a history is this one, that is what the clerk did
 played :
     (o : Opening) (calls : List Call) (sequence : List Placed)
+    → FewInserts (opened o) calls
     → sequenceOf (trace (opened o) calls) ≡ sequence
     → OneByOne (trace (opened o) calls) sequence
-played o calls sequence is = subst (OneByOne (trace (opened o) calls)) is (in-sequence (calls-stood o calls))
+played o calls sequence few is =
+    let all = calls-stood o calls few in
+    subst (OneByOne (trace (opened o) calls)) is (in-sequence (all .0) (all .1))
 
 -- ---- the trials
 
 -- §10.6: the sleeper, one by one
 pub sleeper-one-by-one : OneByOne (trace (opened twoWorkers) sleeper) sleeperSequence
 unfolding computed since
-sleeper-one-by-one = played twoWorkers sleeper sleeperSequence refl
+sleeper-one-by-one = played twoWorkers sleeper sleeperSequence (omega arith) refl
 
 -- §10.8: two inserts of one lot, one by one
 pub two-inserts-one-by-one : OneByOne (trace (opened twoWorkers) twoInserts) twoInsertsSequence
 unfolding computed since
-two-inserts-one-by-one = played twoWorkers twoInserts twoInsertsSequence refl
+two-inserts-one-by-one = played twoWorkers twoInserts twoInsertsSequence (omega arith) refl
 
 -- §10.11: the word that repeats, one by one
 pub repeated-one-by-one : OneByOne (trace (opened threeWorkers) repeatedWord) repeatedSequence
 unfolding computed since
-repeated-one-by-one = played threeWorkers repeatedWord repeatedSequence refl
+repeated-one-by-one = played threeWorkers repeatedWord repeatedSequence (omega arith) refl
 
 -- ---- a look that is too late
 
 -- a look that ends after a remove of its lot has, one by one
 pub look-one-by-one : OneByOne (trace (opened twoWorkers) lookTooLate) lookTooLateSequence
 unfolding computed since
-look-one-by-one = played twoWorkers lookTooLate lookTooLateSequence refl
+look-one-by-one = played twoWorkers lookTooLate lookTooLateSequence (omega arith) refl
 
 -- a call of a trace that ended with a ticket, when no lot is left; its first turn is a moment of it, and its last is none
 pub record TooLate : Type 0 where
@@ -83,7 +83,7 @@ look-too-late =
 -- a look that misses its lot while it is away, one by one
 pub gap-one-by-one : OneByOne (trace (opened twoWorkers) lookInTheGap) lookInTheGapSequence
 unfolding computed since
-gap-one-by-one = played twoWorkers lookInTheGap lookInTheGapSequence refl
+gap-one-by-one = played twoWorkers lookInTheGap lookInTheGapSequence (omega arith) refl
 
 -- a call of a trace that ended with 0, with its lot in the list just after its first turn and just after its last
 pub record InTheGap : Type 0 where
@@ -98,13 +98,6 @@ look-in-the-gap = record { call = gap-one-by-one .calls .1 .1 .1 .1 .0 .is; firs
 
 -- ---- a move
 
--- all that a move is computed by, beside what calls are
-unfoldable moveComputed : Unit {0}
-unfolding
-    computed stateThrough traceThrough HallCalls.hallMove HallCalls.freshIndex Hall.hallMoveNumber
-    Move.moveNumber Move.linesOn Move.linesFor Move.placedAll Refusals.anyRecord Board.anyUnder
-moveComputed = tt
-
 -- a move that is refused while an insert is under way, one that is done when it has ended, and a remove that answers the insert's ticket
 pub record AfterMove : Type 0 where
   pub refused : moveNumberOf (stateThrough (opened twoWorkers) (take 2 insertThenMove)) twoBuckets ≡ 12
@@ -114,13 +107,13 @@ pub record AfterMove : Type 0 where
 
 -- §22.7: there is one list through all moves
 pub remove-after-move : AfterMove
-unfolding moveComputed since
+unfolding moving since
 remove-after-move =
     record {
       refused = refl;
       done = refl;
       list = refl;
-      removed = in-sequence (steps-stood twoWorkers removeAfterMove);
+      removed = let all = steps-stood twoWorkers removeAfterMove (few-steps _ removeAfterMove (omega arith)) in in-sequence (all .0) (all .1);
     }
 
 -- ---- an answer that is made up

@@ -13,7 +13,7 @@ use Rattle.engine.specs.Board.{bucketOf}
 use Rattle.history.specs.Trace.{Turn, Retiring}
 use Rattle.history.specs.History.{State, recordOf}
 use Rattle.history.specs.Cells.{cellsAt, markAt, home}
-use Rattle.history.proofs.Steps.{Begins, Turns, Retires}
+use Rattle.history.proofs.Steps.{Begins, Turns, Retires, spends-on}
 use Rattle.history.proofs.Cells.{Known}
 use Rattle.clerk.proofs.Leads.{Leads, reads-leads}
 use Rattle.clerk.proofs.Leads as leads
@@ -70,7 +70,7 @@ module _
   still u sees =
       record {
         slot = sees .slot;
-        most = rw (act .acts .last) (sees .most);
+        most = rw (act .last) (sees .most);
         busy = λ h insert is.
             let was = turn-same n act h insert in
             let own = sees .busy h (was .insert) (is ∙ was .ticket) in
@@ -91,7 +91,7 @@ module _
   by-lead same (leads.to3 place) from to =
       record {
         slot = few;
-        most = rw (act .acts .last) (before .values (home n w) (w .slot) few);
+        most = rw (act .last) (before .values (home n w) (w .slot) few);
         busy = λ h insert is. (refl, after .stands h (home n w) (w .slot) insert few (same _ ∙ is));
       }
   by-lead same (leads.to4 place valid) from to =
@@ -139,7 +139,7 @@ retiring-seen n {s} {t} act seen =
     let sees = seen j from to in
     record {
       slot = sees .slot;
-      most = rw (act .acts .last) (sees .most);
+      most = rw (act .last) (sees .most);
       busy = retiring-same act (λ x. (u .place ≡ 3) × Own n x (home n u) (u .slot)) (u .seen) (sees .busy);
     })
 
@@ -154,6 +154,6 @@ start-seen n {s} {t} start seen =
     let sees = seen j from to in
     record {
       slot = sees .slot;
-      most = omega (arith, sees .most, start .starts .last);
+      most = omega (arith, sees .most, spends-on (start .spends));
       busy = start-same start (λ x. (u .place ≡ 3) × Own n x (home n u) (u .slot)) (u .seen) (sees .most) (sees .busy);
     })

@@ -1,11 +1,10 @@
--- All that holds of an opened board, one clause a file; that every start, turn and retiring keeps it; that it holds where a stretch begins; and
--- what follows for each turn of a history. Assumes nothing.
+-- All that holds of an opened board while inserts are few, one clause a file; that every start, turn and retiring keeps it; that it holds where a
+-- stretch begins; and what follows for each turn of a history. Assumes nothing.
 use Prim.Native.Nat.{ℕ, _+_, _^_, _<_}
 use mathlib.Core.List.{List, [], _∷_, _++_, append-assoc}
-use mathlib.Core.Logic.{inl, inr, _↔_}
 use mathlib.Core.Path.{_≡_, refl, sym, subst, _∙_}
 use native.Mathlib.Omega.{arith}
-use lib.ListN.{length}
+use lib.ListN.{length, length-append}
 use Rattle.turn.specs.declared.Worker.{Worker}
 use Rattle.turn.specs.declared.Progress.the-variants.{Ended}
 use Rattle.engine.specs.Board.{lotsOn}
@@ -15,18 +14,18 @@ use Rattle.history.specs.Cells.{cellsAt, home}
 use Rattle.history.proofs.View as walks
 use Rattle.history.proofs.View.{Acts}
 use Rattle.history.proofs.States.{view}
-use Rattle.history.proofs.Counts.{bumpOf, onto, total-onto}
+use Rattle.history.proofs.Counts.{onto}
 use Rattle.history.proofs.Good.{Good, walk-good}
 use Rattle.history.proofs.Steps.{Begins, Turns, Retires, Lasts}
 use Rattle.history.proofs.Spent.{Spent, spent-lasts}
+use Rattle.history.proofs.Paid.{Paid, paid-lasts, ready-paid}
 use Rattle.history.proofs.Ready.{Ready, rests, ready-unaware}
 use Rattle.history.proofs.Beginning.{ready-good}
 use Rattle.history.proofs.NoValueComesBack.{ready-spent}
 use Rattle.history.proofs.Cells.{Known, known-lasts, ready-known}
 use Rattle.history.proofs.Later.{CutLast, last, sooner, cut-last}
-use Rattle.clerk.specs.Does.{told, does, TellsChange}
+use Rattle.clerk.specs.Does.{told, does}
 use Rattle.clerk.specs.Calls.{asks, Settles, listAfter}
-use Rattle.clerk.proofs.Listed.{quiet-tells}
 use Rattle.clerk.proofs.Since.{since}
 use Rattle.clerk.proofs.Counts.{bumpsIn}
 use Rattle.clerk.proofs.Sometime.{Sometime}
@@ -34,7 +33,7 @@ use Rattle.clerk.proofs.Deals.{Deals, nothing, comes, goes, turn-deals}
 use Rattle.clerk.proofs.Recalls.{Recalled, turn-recalled, retiring-recalled, start-recalled}
 use Rattle.clerk.proofs.Knows.{Knowing, nothing-known, turn-knowing, retiring-knowing, start-knowing}
 use Rattle.clerk.proofs.Distinct.{Distinct, turn-distinct, retiring-distinct, start-distinct}
-use Rattle.clerk.proofs.Listing.{Lists, Long, commit-answers, commit-tells, close-answers, close-tells, turn-lists, turn-long}
+use Rattle.clerk.proofs.Listing.{Lists, Long, commit-answers, close-answers, turn-lists, turn-long}
 use Rattle.clerk.proofs.Listing.{retiring-lists, retiring-long, start-lists}
 use Rattle.clerk.proofs.Tickets.{Tickets, turn-tickets, retiring-tickets, start-tickets}
 use Rattle.clerk.proofs.Seen.{Seen, turn-seen, retiring-seen, start-seen}
@@ -55,8 +54,6 @@ pub record Right (past : List Entry) (e : Turn) : Type 0 where
       → (a : ℕ)
       → e .report .progress ≡ Ended a
       → Sometime (firstTurn (e .worker) past) (past ++ (acted e ∷ [])) (λ list. does (asks (e .was)) list ≡ told a list)
-  -- which of the two it was is told by the answer
-  pub tells : (a : ℕ) → e .report .progress ≡ Ended a → Settles e ↔ TellsChange (asks (e .was)) a
 
 -- every turn of the past was right
 abbrev pub AllRight : List Entry → Type 0
@@ -90,6 +87,7 @@ module _ (first : State) where
     pub good : Goes s newer many
     pub known : Known s
     pub spent : Spent (first .floor .last) s newer ts
+    pub paid : Paid s newer ts
     -- what each worker has in mind, and what it knows by it
     pub recalled : Recalled n newer s
     pub knowing : Knowing n s
@@ -122,6 +120,7 @@ module _ (first : State) where
             walk-good (workersOf first) n (view first .marks) (walks.starts (start .starts) walks.stays) (onto newer []) (old .many) (old .good);
         known = known-lasts .begins newer ts start (old .known);
         spent = spent-lasts .begins newer ts start (old .spent);
+        paid = paid-lasts .begins newer ts start (old .paid);
         recalled = start-recalled n newer start (old .recalled);
         knowing = start-knowing n start (old .knowing);
         distinct = start-distinct start (old .distinct);
@@ -142,9 +141,9 @@ module _ (first : State) where
   onto-then [] e older = refl
   onto-then (x ∷ newer) e older = onto-then newer e (x ∷ older)
 
-  -- versions are moved less than 2^32 times since the stretch began, since each time has its ticket
-  few-moves : (s : State) {k : ℕ} (newer : List Entry) → Goes s newer k → bumpsIn newer < 2 ^ 32
-  few-moves s newer good = omega (arith, good .tickets, good .fits, total-onto bumpOf newer [])
+  -- where fewer than 2^32 tickets were spent since the stretch began, versions were moved less often than that
+  few-moves : (s : State) (newer : List Entry) (ts : List ℕ) → length ts < 2 ^ 32 → Paid s newer ts → bumpsIn newer < 2 ^ 32
+  few-moves s newer ts few paid = omega (arith, few, paid)
 
   -- with an entry more, what demand 3 follows from holds still
   good-on :
@@ -185,40 +184,24 @@ module _ (first : State) where
 
     turns-right : Right past e
     turns-right =
-        record {
-          settled = by (turn-deals act (old .known));
-          ended = answered;
-          tells = λ a is. tell a is (turn-deals act (old .known));
-        }
+        record { settled = by (turn-deals act (old .known)); ended = answered }
       where
-        tell : (a : ℕ) → e .report .progress ≡ Ended a → Deals s e t → Settles e ↔ TellsChange (asks (e .was)) a
-        tell a is (nothing unsettled slots) = (
-          λ settles. absurd (unsettled settles),
-          λ changes. let some = answered unsettled a is in absurd (quiet-tells (asks (e .was)) _ a (some .holds) changes),
-        )
-        tell a is (comes commit did) = (
-          λ settles. commit-tells n past (old .sized) act (old .known) (old .knowing) (old .distinct) (old .lists) commit did a is,
-          λ changes. inl commit,
-        )
-        tell a is (goes close did) = (
-          λ settles. close-tells n past (old .sized) act (old .known) (old .knowing) (old .distinct) (old .lists) close did a is,
-          λ changes. inr close,
-        )
-
         by : Deals s e t → Settles e → e .report .progress ≡ Ended (does (asks (e .was)) (listAfter past) .answer)
         by (nothing unsettled slots) settles = absurd (unsettled settles)
         by (comes commit did) settles = commit-answers n past (old .sized) act (old .known) (old .knowing) (old .distinct) (old .lists) commit did
         by (goes close did) settles = close-answers n past (old .sized) act (old .known) (old .knowing) (old .distinct) (old .lists) close did
 
-    turns-standing : Standing t now (newer ++ (acted e ∷ [])) ts
-    turns-standing =
-        let few = few-moves t (newer ++ (acted e ∷ [])) good-then in
+    turns-standing : length ts < 2 ^ 32 → Standing t now (newer ++ (acted e ∷ [])) ts
+    turns-standing fewer =
+        let paid-then = paid-lasts .turns newer ts act (old .paid) in
+        let few = few-moves t (newer ++ (acted e ∷ [])) ts fewer paid-then in
         record {
           sized = act .buckets ∙ old .sized;
           many = 0 + old .many;
           good = good-then;
           known = known-then;
           spent = spent-lasts .turns newer ts act (old .spent);
+          paid = paid-then;
           recalled = turn-recalled n newer (old .sized) act (turn-deals act (old .known)) (old .recalled);
           knowing = turn-knowing n newer (old .sized) act (old .known) few (old .recalled) (old .knowing);
           distinct = turn-distinct n (old .sized) act (old .known) (old .knowing) (old .distinct);
@@ -241,17 +224,20 @@ module _ (first : State) where
   retires-standing :
       {s t : State} {r : Retiring} (past newer : List Entry) (ts : List ℕ)
       → Retires s r t
+      → length ts < 2 ^ 32
       → Standing s past newer ts
       → Standing t (past ++ (retired r ∷ [])) (newer ++ (retired r ∷ [])) ts
-  retires-standing {t = t} {r} past newer ts act old =
+  retires-standing {t = t} {r} past newer ts act fewer old =
       let good-then = good-on t past newer ts (retired r) (act .acts) old in
-      let few = few-moves t (newer ++ (retired r ∷ [])) good-then in
+      let paid-then = paid-lasts .retires newer ts act (old .paid) in
+      let few = few-moves t (newer ++ (retired r ∷ [])) ts fewer paid-then in
       record {
         sized = act .buckets ∙ old .sized;
         many = 0 + old .many;
         good = good-then;
         known = known-lasts .retires newer ts act (old .known);
         spent = spent-lasts .retires newer ts act (old .spent);
+        paid = paid-then;
         recalled = retiring-recalled n newer act (old .recalled);
         knowing = retiring-knowing n newer act (old .known) few (old .recalled) (old .knowing);
         distinct = retiring-distinct act (old .distinct);
@@ -267,13 +253,14 @@ module _ (first : State) where
 
   -- ---- any number of them
 
-  -- all of them keep it, whatever was done before the stretch began
-  pub standing-lasts : (older : List Entry) → Lasts (λ s newer ts. Standing s (older ++ newer) newer ts)
+  -- all of them keep it, whatever was done before the stretch began, while fewer than 2^32 tickets were spent since then
+  pub standing-lasts : (older : List Entry) → Lasts (λ s newer ts. length ts < 2 ^ 32 → Standing s (older ++ newer) newer ts)
   standing-lasts older =
       record {
-        begins = λ newer ts start old. begins-standing (older ++ newer) newer ts start old;
-        turns = λ newer ts act old. moved-in _ newer ts _ (turns-standing (older ++ newer) newer ts act old);
-        retires = λ newer ts act old. moved-in _ newer ts _ (retires-standing (older ++ newer) newer ts act old);
+        begins = λ {spent = spent} newer ts start old few.
+            begins-standing (older ++ newer) newer ts start (old (omega (arith, few, length-append ts spent)));
+        turns = λ newer ts act old few. moved-in _ newer ts _ (turns-standing (older ++ newer) newer ts act (old few) few);
+        retires = λ newer ts act old few. moved-in _ newer ts _ (retires-standing (older ++ newer) newer ts act few (old few));
       }
     where
       moved-in :
@@ -304,6 +291,7 @@ ready-standing {first} ready past none distinct lists long right =
       good = ready-good ready;
       known = ready-known ready;
       spent = ready-spent ready;
+      paid = ready-paid ready;
       recalled = λ i aware. absurd (ready-unaware ready i aware);
       knowing = λ i other current. nothing-known (c i) (w i) (omega (arith, rests ready i .place));
       distinct = distinct;

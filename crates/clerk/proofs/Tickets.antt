@@ -16,7 +16,7 @@ use Rattle.history.specs.Trace.{Turn, Retiring, Entry}
 use Rattle.history.specs.History.{State, recordOf}
 use Rattle.history.specs.Values.{valueAt}
 use Rattle.history.specs.Cells.{home}
-use Rattle.history.proofs.Steps.{Spends, unticketed, ticketed, Begins, Turns, Retires, stepOf}
+use Rattle.history.proofs.Steps.{Spends, unticketed, ticketed, Begins, Turns, Retires, stepOf, spends-on}
 use Rattle.history.proofs.Account.{still-on}
 use Rattle.history.proofs.Spent.{Spent}
 use Rattle.history.proofs.Cells.{retire-value}
@@ -97,10 +97,10 @@ module _
             stored insert (here ∙ own-home act sized) slot (rw (here, slot) (store-writes act (stores-at act place)))
 
     value-most : Value → valueAt t b p ≤ t .floor .last
-    value-most (stays same) = rw (same, act .acts .last) (old .values b p few)
+    value-most (stays same) = rw (same, act .last) (old .values b p few)
     value-most (stored insert here slot ticket) =
         let most = was-known act (λ u. Inserts u → u .ticket ≤ s .floor .last) (λ insert. spent .most _ (spent .accepted (e .worker) insert)) in
-        rw (ticket, act .acts .last) (most insert)
+        rw (ticket, act .last) (most insert)
 
     value-stands : Value → (i : ℕ) → Inserts (recordOf t i) → valueAt t b p ≡ recordOf t i .ticket → Own n (recordOf t i) b p
     value-stands (stays same) i insert is =
@@ -138,7 +138,7 @@ retiring-same act P x old = each-retiring act (λ j u. Inserts u → x ≡ u .ti
 pub retiring-tickets : (n : ℕ) {s t : State} {r : Retiring} → Retires s r t → Tickets n s → Tickets n t
 retiring-tickets n {s} act old =
     record {
-      values = λ b p few. rw (retire-value act b p, act .acts .last) (old .values b p few);
+      values = λ b p few. rw (retire-value act b p, act .last) (old .values b p few);
       stands = λ i b p insert few is.
           retiring-same act (λ u. Own n u b p) (valueAt s b p) (λ j inserts. old .stands j b p inserts few) i insert (sym (retire-value act b p) ∙ is);
     }
@@ -174,7 +174,7 @@ pub start-tickets :
     → Tickets n t
 start-tickets n {s} start old =
     record {
-      values = λ b p few. rw (start-cells start b (valueCell p)) (omega (arith, old .values b p few, start .starts .last));
+      values = λ b p few. rw (start-cells start b (valueCell p)) (omega (arith, old .values b p few, spends-on (start .spends)));
       stands = λ i b p insert few is.
           start-same start (λ u. Own n u b p) (valueAt s b p) (old .values b p few) (λ j inserts. old .stands j b p inserts few) i insert
           (sym (start-cells start b (valueCell p)) ∙ is);

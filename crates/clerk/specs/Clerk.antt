@@ -1,6 +1,7 @@
 -- The whole board is one clerk: what is promised of every opening and every list of calls and moves since, accepted or refused. There is one
 -- list through all moves. A run is its turns called one by one (`runs-are-turns`), so that what is said of the state after calls is said
--- after every call and after every turn. That it holds is `the-clerk`, in proofs/TheClerk.
+-- after every call and after every turn. That it holds while inserts are few is `the-clerk`, in proofs/TheClerk; what is so however many
+-- there were is `the-accounts`, in proofs/TheAccounts.
 use Prim.Native.Nat.{ℕ, _+_, _≤_, _<_}
 use mathlib.Core.Bool.{false}
 use mathlib.Core.List.{List, [], _∷_, _++_}
@@ -121,33 +122,8 @@ pub record RetiredAt (first : State) (steps : List Step) (at : AtRetiring (trace
 
 -- ---- all that is claimed
 
--- the board is one clerk
-pub record Clerk (first : State) (steps : List Step) : Type 0 where
-  -- §17.4: no lot twice: two valid slots with one lot are one slot
-  pub no-lot-twice :
-      (b p c q : ℕ) (l k : Line)
-      → Stands (stateThrough first steps) b p l
-      → Stands (stateThrough first steps) c q k
-      → l .lot ≡ k .lot
-      → (b ≡ c) × (p ≡ q)
-  -- §17.4: the list: a lot with a ticket is in it exactly if it stands in a valid slot
-  pub the-list : (l : Line) → In l (listAfter (traceThrough first steps)) ↔ ((b : ℕ) × (p : ℕ) × Stands (stateThrough first steps) b p l)
-  -- §17.4: no lot is in the list twice
-  pub listed-once : Ordered (λ x y. x .lot ≡ y .lot → ⊥) (listAfter (traceThrough first steps))
-  -- §17.4: a lot in the list has a ticket of at least 1, so that the answer 0 says that it is not there
-  pub ticketed : (l : Line) → In l (listAfter (traceThrough first steps)) → 1 ≤ l .ticket
-  -- §17.4: a count tells how long the list is
-  pub counted :
-      countCall (stateThrough first steps .board) (stateThrough first steps .floor) ≡ Lots (length (listAfter (traceThrough first steps)))
-  -- §17.4, §21.3: and so does the display's total
-  pub totalled :
-      totalCall (stateThrough first steps .board) (stateThrough first steps .index) (stateThrough first steps .floor)
-      ≡ Slots (length (listAfter (traceThrough first steps)))
-  -- §17.4: the bucket that is shown for a lot tells whether the lot is in the list, and with which ticket
-  pub shown :
-      (l : Line)
-      → In l (listAfter (traceThrough first steps))
-      ↔ ((p : ℕ) × HasLine (showCall (stateThrough first steps .board) (stateThrough first steps .floor) (l .lot)) p l)
+-- what is so however many inserts there were: of slots that are held, of starts and the calls that they began, of answers, and of the list
+pub record Accounts (first : State) (steps : List Step) : Type 0 where
   -- §17.8: a slot is being inserted exactly if a worker holds it
   pub held :
       (b p : ℕ)
@@ -189,13 +165,41 @@ pub record Clerk (first : State) (steps : List Step) : Type 0 where
       (start other : Start first steps) (one : RetiredFrom first steps start) (two : RetiredFrom first steps other)
       → one .rest ≡ two .rest
       → start .earlier ≡ other .earlier
+  -- §17.5: whether a call ended by a commit or a close is told by its answer
+  pub told : (c : EndedCall) (is : IsCallOf (traceThrough first steps) c) → Settles (is .at .turn) ↔ TellsChange (c .asked) (c .answer)
+  -- §17.4: no lot is in the list twice
+  pub listed-once : Ordered (λ x y. x .lot ≡ y .lot → ⊥) (listAfter (traceThrough first steps))
+  -- §17.4: a lot in the list has a ticket of at least 1, so that the answer 0 says that it is not there
+  pub ticketed : (l : Line) → In l (listAfter (traceThrough first steps)) → 1 ≤ l .ticket
   -- §19.6: a retiring, done or refused, leaves the list
   pub retiring-leaves : (i : ℕ) → listAfter (traceThrough first (steps ++ (calls (retire i) ∷ []))) ≡ listAfter (traceThrough first steps)
   -- §22.7: a move, done or refused, leaves the list
   pub move-leaves : (m : Lent) → listAfter (traceThrough first (steps ++ (moves m ∷ []))) ≡ listAfter (traceThrough first steps)
+
+-- while inserts are few (§3.8) the board is one clerk
+pub record Clerk (first : State) (steps : List Step) : Type 0 where
+  -- §17.4: no lot twice: two valid slots with one lot are one slot
+  pub no-lot-twice :
+      (b p c q : ℕ) (l k : Line)
+      → Stands (stateThrough first steps) b p l
+      → Stands (stateThrough first steps) c q k
+      → l .lot ≡ k .lot
+      → (b ≡ c) × (p ≡ q)
+  -- §17.4: the list: a lot with a ticket is in it exactly if it stands in a valid slot
+  pub the-list : (l : Line) → In l (listAfter (traceThrough first steps)) ↔ ((b : ℕ) × (p : ℕ) × Stands (stateThrough first steps) b p l)
+  -- §17.4: a count tells how long the list is
+  pub counted :
+      countCall (stateThrough first steps .board) (stateThrough first steps .floor) ≡ Lots (length (listAfter (traceThrough first steps)))
+  -- §17.4, §21.3: and so does the display's total
+  pub totalled :
+      totalCall (stateThrough first steps .board) (stateThrough first steps .index) (stateThrough first steps .floor)
+      ≡ Slots (length (listAfter (traceThrough first steps)))
+  -- §17.4: the bucket that is shown for a lot tells whether the lot is in the list, and with which ticket
+  pub shown :
+      (l : Line)
+      → In l (listAfter (traceThrough first steps))
+      ↔ ((p : ℕ) × HasLine (showCall (stateThrough first steps .board) (stateThrough first steps .floor) (l .lot)) p l)
   -- §17.5, §17.6: won commits and closes are moments, and every other call that ended has one
   pub moments : HasMoments (traceThrough first steps)
-  -- §17.5: whether a call ended by a commit or a close is told by its answer
-  pub told : (c : EndedCall) (is : IsCallOf (traceThrough first steps) c) → Settles (is .at .turn) ↔ TellsChange (c .asked) (c .answer)
   -- §17.7: the calls that ended can be put one by one, so that the clerk gives each of them its answer
   pub one-by-one : (sequence : List Placed) × OneByOne (traceThrough first steps) sequence

@@ -40,7 +40,7 @@ pub record Opened : Type 0 where
 
 -- §2.1, §2.10: the floor that a plan asks for; no ticket is spent yet
 abbrev pub planned : Plan → Floor
-planned p = record { workers = p .workers; buckets = p .buckets; last = 0; version = p .version }
+planned p = record { workers = p .workers; buckets = p .buckets; last = 0; version = p .version; spare = 0 }
 
 -- §2.10, §7.1: what an opening with this number of refusal, or 0, comes to
 abbrev pub openedBy : ℕ → List ℕ → Floor → List Worker → Plan → After Opened
@@ -75,7 +75,7 @@ startCall board s w late new g = startMade (startNumber (s .floor) board (s .lis
 
 -- §3.5: the ticket of an accepted insert is the floor's last
 abbrev pub spending : Floor → ℕ → Floor
-spending f ticket = record { workers = f .workers; buckets = f .buckets; last = ticket; version = f .version }
+spending f ticket = record { workers = f .workers; buckets = f .buckets; last = ticket; version = f .version; spare = f .spare }
 
 -- §3.4: the start of a look
 abbrev pub lookCall : List ℕ → Seat → Worker → ℕ → Started

@@ -66,7 +66,7 @@ movedBoard old f n = placedAll n (openedBoard n (f .version)) (linesOn old (f .b
 
 -- §22.3: the floor that it leaves
 abbrev pub movedFloor : Floor → ℕ → Floor
-movedFloor f n = record { workers = f .workers; buckets = n; last = f .last; version = f .version }
+movedFloor f n = record { workers = f .workers; buckets = n; last = f .last; version = f .version; spare = f .spare }
 
 -- ---- its numbers
 

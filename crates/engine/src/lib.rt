@@ -18,13 +18,15 @@ mod take; // a turn or a retiring on the board
 mod lots; // the lots on the board
 mod moving; // the lots on a second board
 
-// §2.1: the number of workers W, the number of buckets N, the last ticket, and the version that the opening gave every bucket.
+// §2.1: the number of workers W, the number of buckets N, the last ticket, and the version that the opening gave every bucket. The spare bytes fill
+// it: no byte of it is left to chance.
 #[repr(C)]
 pub struct Floor {
     pub workers: usize,
     pub buckets: usize,
-    pub last: u32,
+    pub last: u64,
     pub version: u32,
+    pub spare: u32,
 }
 
 // What an opening asks for.
@@ -39,7 +41,7 @@ pub struct Plan {
 #[repr(C)]
 pub struct Bid {
     pub lot: u64,
-    pub ticket: u32,
+    pub ticket: u64,
 }
 
 // A worker's number on a floor, and how many records the list has.
@@ -117,6 +119,7 @@ pub fn open_floor(board: &mut [u64], floor: Floor, listed: usize, plan: Plan) ->
         buckets: plan.buckets,
         last: 0,
         version: plan.version,
+        spare: 0,
     };
     if size::are_wrong(opened, board.len(), listed) {
         return Laid {

@@ -114,7 +114,6 @@ module _ (s : State) (i : ℕ) where
         bumps = commit-is w action (isCommit (acted entry)) ∙ sym (turn-bumps w action);
         within = rw (length-map (s .records) awake) (omega (arith, listed none, known .2));
         records = awake-after (s .records) i (does .stepped .worker) (turn-awake bucket w ok (ap (λ (x : Worker). x .asleep) is-up));
-        last = refl;
         bucket = refl;
         was = refl;
         here = sym (tells .after) ∙ tells .effect;

@@ -9,7 +9,7 @@ use Rattle.turn.specs.Asleep.{awake}
 use Rattle.turn.proofs.Lands.{elsewhere}
 use Rattle.history.specs.Trace.{total}
 use Rattle.history.specs.History.{State, Call, workersOf, bucketsOf, state, trace, inserts, removes}
-use Rattle.history.proofs.View.{inserting, left}
+use Rattle.history.proofs.View.{left}
 use Rattle.history.proofs.Held.{Kept}
 use Rattle.history.proofs.Versions.{Tells}
 use Rattle.history.proofs.Charges.{stale}
@@ -41,8 +41,6 @@ module _ {first : State} (ready : Ready first) where
         listed = length-map (first .records) awake ∙ ready-listed ready;
         kept = kept;
         tells = λ b under. first-tells (view first .marks b) b;
-        tickets = omega (arith, counts-none ready inserting refl);
-        fits = ready .last-fits;
         behind = λ i holds. absurd (holds-none ready i holds);
         charge = omega (arith, counts-none ready (stale (bucketsOf first) (view first .marks)) refl);
         budget = omega (arith, counts-none ready left refl);

@@ -77,7 +77,7 @@ module _ (c : ℕ → ℕ) (w : Worker) (d : ℕ → ℕ) (old : Holds w → Fil
   did-fills (closes stored met place removes) on holds = absurd (omega (arith, holds .0))
 
 -- an insert's ticket is at least 1
-insert-ticket : {k t : ℕ} → k ≡ insertKind → ticketFits k t ≡ true → 1 ≤ t
+pub insert-ticket : {k t : ℕ} → k ≡ insertKind → ticketFits k t ≡ true → 1 ≤ t
 unfolding ticketFits
 insert-ticket {k} {t} kind fits = leb-true 1 t (rw kind at fits)
 

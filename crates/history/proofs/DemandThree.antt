@@ -1,4 +1,4 @@
--- Demand 3 holds wherever a stretch can begin and for every list of calls, with no other premise. Assumes nothing.
+-- Demand 3 holds wherever a stretch can begin and for every list of calls. Only a swap that wins asks that inserts be few. Assumes nothing.
 use Prim.Native.Nat.{ℕ, _+_, _*_, _-_, _≤_}
 use mathlib.Core.List.{List, [], _∷_, _++_, append-assoc}
 use mathlib.Core.Path.{ap, _∙_}
@@ -8,7 +8,7 @@ use native.Mathlib.Omega.{arith}
 use Rattle.history.specs.Trace.{Turn, Entry, acted, Wins, Loses, Swaps, Some, None, total}
 use Rattle.history.specs.Counts.{lostSwaps, changesIn}
 use Rattle.history.specs.Moment.{AtTurn, AtMoment, HasMoment, ChangedByAnother, CommittedOrClosedByAnother}
-use Rattle.history.specs.History.{State, Call, workersOf, bucketsOf, state, trace, inserts, removes, mostLost}
+use Rattle.history.specs.History.{State, Call, workersOf, bucketsOf, state, trace, inserts, FewInserts, removes, mostLost}
 use Rattle.history.specs.Demand.{DemandThree}
 use Rattle.history.proofs.View.{View, Walk}
 use Rattle.history.proofs.Counts.{lossOf, onto, total-onto}
@@ -19,6 +19,7 @@ use Rattle.history.proofs.States.{view}
 use Rattle.history.proofs.Ready.{Ready, ready-right, ready-unaware}
 use Rattle.history.proofs.Walking.{history-walk}
 use Rattle.history.proofs.Beginning.{ready-good, history-good}
+use Rattle.history.proofs.Paid.{few-bumps}
 
 module _ {first : State} (ready : Ready first) (calls : List Call) where
   abbrev n : ℕ
@@ -40,9 +41,14 @@ module _ {first : State} (ready : Ready first) (calls : List Call) where
   a-swap-loses-only-if : (at : AtMoment (trace first calls)) → Loses (at .turn) → Some (ChangedByAnother (at .turn)) (at .between)
   a-swap-loses-only-if at lost = lost-since (workersOf first) n (view first .marks) walk (ready-good ready) at (inr lost) lost
 
-  a-swap-wins-only-if : (at : AtMoment (trace first calls)) → Wins (at .turn) → None (CommittedOrClosedByAnother (at .turn)) (at .between)
-  a-swap-wins-only-if at won =
-      won-since (workersOf first) n (view first .marks) walk (ready-good ready) at (inl won) (omega (arith, ready-right ready .some-bucket)) won
+  a-swap-wins-only-if :
+      FewInserts first calls
+      → (at : AtMoment (trace first calls))
+      → Wins (at .turn)
+      → None (CommittedOrClosedByAnother (at .turn)) (at .between)
+  a-swap-wins-only-if few at won =
+      won-since (workersOf first) n (view first .marks) walk (ready-good ready) at (inl won) (omega (arith, ready-right ready .some-bucket))
+      (few-bumps ready calls few) won
 
   lost-swaps-bound : lostSwaps (trace first calls) ≤ mostLost first calls
   unfolding total
@@ -83,9 +89,9 @@ module _ {first : State} (ready : Ready first) (calls : List Call) where
         let has = demand-three .moment at (inr lost) in
         (has, demand-three .loses (at-moment has) lost)
 
-    -- a won swap has a moment, and from there to the swap no other worker made a commit or a close in its bucket
+    -- where inserts are few, a won swap has a moment, and from there to the swap no other worker made a commit or a close in its bucket
     pub every-won-swap :
-        Wins (at .turn) → (has : HasMoment (at .before) (at .turn)) × None (CommittedOrClosedByAnother (at .turn)) (has .newer)
-    every-won-swap won =
+        FewInserts first calls → Wins (at .turn) → (has : HasMoment (at .before) (at .turn)) × None (CommittedOrClosedByAnother (at .turn)) (has .newer)
+    every-won-swap few won =
         let has = demand-three .moment at (inl won) in
-        (has, demand-three .wins (at-moment has) won)
+        (has, demand-three .wins few (at-moment has) won)

@@ -122,7 +122,7 @@ abbrev oneBucket : List ℕ → ℕ → State
 oneBucket bucket last =
     record {
       board = bucket;
-      floor = record { workers = 1; buckets = 1; last = last; version = 0 };
+      floor = record { workers = 1; buckets = 1; last = last; version = 0; spare = 0 };
       records = idle ∷ [];
       index = last ∷ 1 ∷ 0 ∷ 0 ∷ 0 ∷ [];
     }

@@ -1,5 +1,5 @@
 -- What holds on an opened board after every call and turn, and is all that demand 3 follows from. Assumes nothing.
-use Prim.Native.Nat.{ℕ, _+_, _*_, _-_, _^_, _≤_, _<_}
+use Prim.Native.Nat.{ℕ, _+_, _*_, _-_, _≤_, _<_}
 use mathlib.Core.List.{List, _∷_}
 use mathlib.Core.Path.{_≡_, subst, _∙_}
 use native.Mathlib.Decide.{ℕ-discrete}
@@ -11,9 +11,9 @@ use Rattle.turn.specs.Effects.{Effect}
 use Rattle.history.specs.Trace.{Entry, who, bucketIn, total}
 use Rattle.history.specs.Counts.{lostSwaps, changesIn}
 use Rattle.history.proofs.Sums.{total-set, total-others}
-use Rattle.history.proofs.View.{View, worker, inserting, left, Starts, Acts, quiet-marks, Walk, stays, starts, acts}
-use Rattle.history.proofs.Lawful.{changed, bumped, changed-le}
-use Rattle.history.proofs.Counts.{lossOf, changeOf, bumpOf, lost-quiet, onto}
+use Rattle.history.proofs.View.{View, worker, left, Starts, Acts, quiet-marks, Walk, stays, starts, acts, act-total, start-total}
+use Rattle.history.proofs.Lawful.{changed, changed-le}
+use Rattle.history.proofs.Counts.{lossOf, changeOf, lost-quiet, onto}
 use Rattle.history.proofs.Held.{Kept, act-kept, start-kept}
 use Rattle.history.proofs.Versions.{Tells, act-tells}
 use Rattle.history.proofs.Behind.{BehindIn, act-behind, start-behind}
@@ -25,9 +25,6 @@ pub record Good (workers n : ℕ) (first : ℕ → ℕ) (s : View) (past : List 
   pub listed : length (s .records) ≡ workers
   pub kept : Kept n s
   pub tells : (b : ℕ) → b < n → Tells (first b) b past (s .marks b)
-  -- §3.6: what moved a version and the inserts under way are together no more than the last ticket, which is below 2^32
-  pub tickets : total bumpOf past + total inserting (s .records) ≤ s .last
-  pub fits : s .last < 2 ^ 32
   -- the word of a slot's holder is behind the board's by no more than versions were moved
   pub behind : (i : ℕ) → BehindIn n past (s .marks) (worker s i)
   -- a change makes each of the other workers stale at most, and only a stale worker loses
@@ -44,12 +41,6 @@ module _ (workers n : ℕ) (first : ℕ → ℕ) where
 
     abbrev effect : Effect
     effect = act .effect
-
-    -- what is paid comes from what the worker's record counted for
-    spends : (f : Worker → ℕ) (c : ℕ) → c + f v ≤ f w → c + total f (t .records) ≤ total f (s .records)
-    spends f c pays =
-        let more = total-set f f c 0 v (λ w. omega arith) (s .records) (who e) (act .within) (omega (arith, pays)) in
-        rw (act .records) (omega (arith, more))
 
     pays : Pays w effect v
     pays = moves-pays w effect v (s .marks (bucketIn e)) (act .moves)
@@ -91,36 +82,26 @@ module _ (workers n : ℕ) (first : ℕ → ℕ) where
           listed = rw (act .records) (length-set (s .records) (who e) v ∙ good .listed);
           kept = act-kept n s e v t (good .kept) act;
           tells = λ b under. act-tells (first b) n s e v t (good .kept) act past b (good .tells b under);
-          tickets = rw (act .last) (omega (arith, act .bumps, good .tickets, spends inserting (bumped effect) (pays .bump)));
-          fits = rw (act .last) (good .fits);
           behind = act-behind n s e v t act past (good .behind);
           charge = charged (ℕ-discrete (changeOf e) 0);
-          budget = omega (arith, act .changes, good .budget, spends left (changed effect) (pays .change));
+          budget = omega (arith, act .changes, good .budget, act-total left (changed effect) act (pays .change));
         }
 
   module _ (s : View) (v : Worker) (t : View) (start : Starts s v t) where
-    -- what the records count for grows by no more than what the new one counts for
-    brings : (f g : Worker → ℕ) → ((w : Worker) → g w ≤ f w) → total g (t .records) ≤ total f (s .records) + g v
-    brings f g less =
-        let more = total-set f g 0 (g v) v less (s .records) (start .who) (start .within) (omega arith) in
-        rw (start .records) (omega (arith, more))
-
     -- so does a start, which brings its call's changes
     start-good : (past : List Entry) (k : ℕ) → Good workers n first s past k → Good workers n first t past (left v + k)
     start-good past k good =
         let stale-then = stale n (s .marks) in
         let stale-now = stale n (t .marks) in
         let fresh : stale-now v ≡ 0 = not-stale n (t .marks) v (λ aware. absurd (start .unaware aware)) in
-        let still = brings stale-then stale-now (stale-same n (s .marks) (t .marks) (start .marks)) in
+        let still = start-total stale-then stale-now start (stale-same n (s .marks) (t .marks) (start .marks)) in
         record {
           listed = rw (start .records) (length-set (s .records) (start .who) v ∙ good .listed);
           kept = start-kept n s v t (good .kept) start;
           tells = λ b under. rw (start .marks b) (good .tells b under);
-          tickets = omega (arith, good .tickets, start .last, brings inserting inserting (λ w. omega arith));
-          fits = start .fits (good .fits);
           behind = start-behind n s v t past start (good .behind);
           charge = omega (arith, good .charge, still, fresh);
-          budget = omega (arith, good .budget, brings left left (λ w. omega arith));
+          budget = omega (arith, good .budget, start-total left left start (λ w. omega arith));
         }
 
   -- and so does every walk

@@ -5,6 +5,7 @@ use mathlib.Core.Logic.{_⊎_, inl, inr}
 use mathlib.Core.Path.{_≡_, refl, sym, ap, ap₂, subst, _∙_}
 use Rattle.history.specs.Trace.{Entry, Some, None}
 use Rattle.history.specs.Numbers.{OneOf, Rising}
+use Rattle.history.proofs.Cuts.{some-later}
 
 -- ---- traces
 
@@ -58,6 +59,11 @@ module _ (P : Entry → Type 0) where
         cut = ap (λ (l : List Entry). l ++ fs) (some .cut) ∙ append-assoc (some .older) (some .entry ∷ some .newer) fs;
         holds = some .holds;
       }
+
+  -- and so does one of the second part
+  pub some-back : (es fs : List Entry) → Some P fs → Some P (es ++ fs)
+  some-back [] fs some = some
+  some-back (e ∷ es) fs some = some-later P e (es ++ fs) (some-back es fs some)
 
   -- the entry at the end of a trace stands in it
   pub some-last : (past : List Entry) (d : Entry) → P d → Some P (past ++ (d ∷ []))

@@ -20,6 +20,8 @@ pub mod Figures
 pub mod Reached
 pub mod ValuesReached
 pub mod MovesReached
+pub mod Round
+pub mod RoundReached
 -- what a history is
 pub mod Library
 pub mod Listed
@@ -44,6 +46,7 @@ pub mod Charges
 pub mod Beginning
 -- a worker's word, and its moment
 pub mod Minds
+pub mod Paid
 pub mod Remembers
 pub mod Swaps
 pub mod Words
@@ -63,6 +66,9 @@ pub mod Removing
 pub mod Searching
 pub mod Inserting
 pub mod Circling
+-- a version that comes round
+pub mod RoundTurns
+pub mod RoundPlaces
 -- cells of held and of valid slots
 pub mod Cells
 -- tools

@@ -17,7 +17,8 @@ use Rattle.history.proofs.States.{view}
 use Rattle.history.proofs.Ready.{Ready, rests}
 use Rattle.history.proofs.Cuts.{no-cut}
 use Rattle.history.proofs.Later.{CutLast, last, sooner, cut-last}
-use Rattle.history.proofs.Steps.{Begins, StartOf, of-look, of-insert, of-remove, Turns, Retires, stepOf, calls-last}
+use Rattle.history.proofs.Starting.{StartOf, of-look, of-insert, of-remove}
+use Rattle.history.proofs.Steps.{Begins, Turns, Retires, stepOf, calls-last}
 use Rattle.history.proofs.Account.{progress-is, goes-busy, still-on}
 use Rattle.history.proofs.Numbered.{answered-ends, oneMore, hadFrom, had-append, ended-now, goes-now, others-now, in-call-had}
 use Rattle.history.proofs.Looking.{Looked, look-started, Next, on, over, look-next}

@@ -4,7 +4,7 @@ use mathlib.Core.Bool.{false, cond, not}
 use mathlib.Core.List.{List, [], _∷_}
 use mathlib.Core.Logic.{_⊎_, inl, inr}
 use mathlib.Core.Path.{_≡_, refl, sym, ap, ap₂, subst, _∙_}
-use native.Mathlib.Decide.{decLe}
+use native.Mathlib.Decide.{ℕ-discrete, decLe}
 use native.Mathlib.Nat.{mod-lt}
 use native.Mathlib.Omega.{arith}
 use lib.Dec.{eqb}
@@ -34,7 +34,6 @@ use Rattle.history.specs.Unbroken.{Unbroken}
 use Rattle.history.specs.Moves.{Lent, moveNumberOf}
 use Rattle.history.specs.Moved.{ValidIn, ValidOn, AllIdle, movedTo}
 use Rattle.history.proofs.Ready.{Ready}
-use Rattle.history.proofs.Beginning.{history-good}
 use Rattle.history.proofs.SameSizes.{state-version}
 use Rattle.history.proofs.Unbroken.{state-unbroken}
 use Rattle.history.proofs.Cells.{state-cells}
@@ -47,7 +46,6 @@ pub record InStretch (s : State) : Type 0 where
   pub unbroken : Unbroken s
   pub cells : Cells s
   pub values : (b p : ℕ) → valueAt s b p ≤ s .floor .last
-  pub last-fits : s .floor .last < 2 ^ 32
   pub version-fits : s .floor .version < 2 ^ 32
 
 -- no two valid slots of a bucket have the same lot
@@ -140,6 +138,14 @@ moved-buckets s m none = ap bucketsOf (done-is s m none)
 pub moves-refused : (s : State) (m : Lent) → (moveNumberOf s m ≡ 0 → ⊥) → movedTo s m ≡ s
 unfolding hallMove
 moves-refused s m some = rw (ne-eqb (moveNumberOf s m) 0 some, ne-eqb (moveNumberOf s m) 0 some)
+
+-- §2.1: done or refused, on whatever board, a move hands on what the floor has to spare
+pub move-spare : (s : State) (m : Lent) → movedTo s m .floor .spare ≡ s .floor .spare
+move-spare s m = by (ℕ-discrete (moveNumberOf s m) 0)
+  where
+    by : Dec (moveNumberOf s m ≡ 0) → movedTo s m .floor .spare ≡ s .floor .spare
+    by (yes accepted) = ap (λ (t : State). t .floor .spare) (done-is s m accepted)
+    by (no refused) = ap (λ (t : State). t .floor .spare) (moves-refused s m refused)
 
 -- ---- the second board
 
@@ -284,7 +290,6 @@ module _ (s : State) (known : InStretch s) (n : ℕ) (some : 0 < n) (few : n ≤
               reads = fresh-reads (t .board) n few;
             };
         idle = idles;
-        last-fits = known .last-fits;
         version-fits = known .version-fits;
         unheld = λ b p two. no-two (mark-of b p) two;
         stands = stands;
@@ -327,6 +332,5 @@ state-in-stretch {first} ready calls =
       unbroken = state-unbroken ready calls;
       cells = state-cells ready calls;
       values = values-most ready calls;
-      last-fits = history-good ready calls .fits;
       version-fits = omega (arith, state-version first calls, ready .version-fits);
     }

@@ -24,7 +24,7 @@ use Rattle.history.specs.Openings.{Asked, asks, turnsSince, since, histo
 use Rattle.history.proofs.Reached.{oneWorker, computed}
 
 -- what a move is computed by, beside what calls are
-unfoldable moving : Unit {0}
+unfoldable pub moving : Unit {0}
 unfolding
     computed Hall.hallMoveNumber HallCalls.hallMove HallCalls.freshIndex
     lotsOn since notesAll stateThrough traceThrough
@@ -44,7 +44,7 @@ pub before-move :
     state (opened oneWorker) putUp
     ≡ record {
       board = 4294967297 ∷ 7 ∷ 0 ∷ 0 ∷ 6 ∷ 0 ∷ 0 ∷ 0 ∷ [];
-      floor = record { workers = 1; buckets = 1; last = 6; version = 0 };
+      floor = record { workers = 1; buckets = 1; last = 6; version = 0; spare = 0 };
       records = idle ∷ [];
       index = 1 ∷ 1 ∷ 0 ∷ 0 ∷ 0 ∷ [];
     }
@@ -58,7 +58,7 @@ pub record Carries : Type 0 where
       movedTo (state (opened oneWorker) putUp) (second 2 (replicate 16 9))
       ≡ record {
         board = (0 ∷ replicate 7 0) ++ (4294967296 ∷ 7 ∷ 0 ∷ 0 ∷ 6 ∷ 0 ∷ 0 ∷ 0 ∷ []);
-        floor = record { workers = 1; buckets = 2; last = 6; version = 0 };
+        floor = record { workers = 1; buckets = 2; last = 6; version = 0; spare = 0 };
         records = idle ∷ [];
         index = 1 ∷ 2 ∷ 0 ∷ 0 ∷ 0 ∷ [];
       }
@@ -107,7 +107,7 @@ twoBuckets =
       lent =
           record {
             board = replicate 16 1;
-            floor = record { workers = 0; buckets = 0; last = 0; version = 0 };
+            floor = record { workers = 0; buckets = 0; last = 0; version = 0; spare = 0 };
             records = blank ∷ [];
             index = replicate 5 1;
           };

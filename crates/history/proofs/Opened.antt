@@ -74,6 +74,10 @@ module _ (o : Opening) where
   pub opened-last : opened o .floor .last ≡ 0
   opened-last = ap (λ (s : State). s .floor .last) opened-is
 
+  -- §2.1: and the floor has 0 to spare
+  pub opened-spare : opened o .floor .spare ≡ 0
+  opened-spare = ap (λ (s : State). s .floor .spare) opened-is
+
 -- a bucket of an opened board is the empty one, or past the last one it has no word
 pub opened-or-none : (n v b : ℕ) → (bucketAt (openedBoard n v) b ≡ emptyBucket v) ⊎ (bucketAt (openedBoard n v) b ≡ [])
 opened-or-none n v b = by (decLe n b)
@@ -159,7 +163,6 @@ module _ (o : Opening) where
       record {
         unbroken = opened-unbroken;
         idle = rw (opened-is o) (ap (λ (n : ℕ). replicate n idle) (opened-listed o));
-        last-fits = omega (arith, opened-last o);
         version-fits = rw (opened-is o) (o .version-fits);
         unheld = λ b p two. omega (arith, two, opened-mark b p);
         stands = λ b p one. absurd (omega (arith, one, opened-mark b p));

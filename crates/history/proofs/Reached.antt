@@ -47,7 +47,7 @@ use Rattle.history.proofs.Histories.{stateFrom-append, traceFrom-append
 abbrev pub lent : (workers : ℕ) → hallOpenNumber (planned (planFor workers)) (replicate 8 1) (replicate 5 1) (length (replicate workers blank)) ≡ 0 → Opening
 lent workers accepted =
     record {
-      lent = record { board = replicate 8 1; floor = record { workers = 0; buckets = 0; last = 0; version = 0 }; records = replicate workers blank; index = replicate 5 1 };
+      lent = record { board = replicate 8 1; floor = record { workers = 0; buckets = 0; last = 0; version = 0; spare = 0 }; records = replicate workers blank; index = replicate 5 1 };
       plan = planFor workers;
       accepted = accepted;
       version-fits = omega arith;
@@ -232,7 +232,7 @@ abbrev starting : State
 starting =
     record {
       board = 1108101562369 ∷ 7 ∷ 7 ∷ 0 ∷ 1 ∷ 2 ∷ 0 ∷ 0 ∷ [];
-      floor = record { workers = 3; buckets = 1; last = 3; version = 0 };
+      floor = record { workers = 3; buckets = 1; last = 3; version = 0; spare = 0 };
       records =
           record { kind = 2; place = 1; key = 8; ticket = 3; slot = 0; word = 0; held = 3; seen = 0; asleep = 0 }
           ∷ record { kind = 2; place = 10; key = 7; ticket = 1; slot = 1; word = 1108101562369; held = 0; seen = 2; asleep = 0 }

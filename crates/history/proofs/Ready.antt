@@ -28,7 +28,6 @@ pub record Ready (s : State) : Type 0 where
   pub unbroken : Unbroken s
   -- every worker is idle
   pub idle : s .records ≡ replicate (workersOf s) idle
-  pub last-fits : s .floor .last < 2 ^ 32
   pub version-fits : s .floor .version < 2 ^ 32
   -- no slot is being inserted
   pub unheld : (b p : ℕ) → markAt s b p ≡ 2 → ⊥

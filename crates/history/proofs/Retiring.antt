@@ -87,7 +87,6 @@ module _ (s : State) (i : ℕ) where
         bumps = retiring-bumps w (isChange (retired entry));
         within = rw (length-map (s .records) awake) (omega (arith, listed none, known .2));
         records = put-awake (s .records) i idle refl;
-        last = refl;
         bucket = refl;
         was = refl;
         here = vacated-word (s .floor) (s .board) w (known .0) (known .1);

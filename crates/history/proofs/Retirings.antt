@@ -19,7 +19,7 @@ use Rattle.engine.specs.Calls.{blank, recordIn}
 use Rattle.engine.proofs.Sizes.{right-listed}
 use Rattle.history.specs.Trace.{Entry, retired, total}
 use Rattle.history.specs.Counts.{isChange}
-use Rattle.history.specs.History.{State, Call, workersOf, bucketsOf, recordOf, retireBy, retiredAs, after, traceFrom, state, trace}
+use Rattle.history.specs.History.{State, Call, workersOf, bucketsOf, recordOf, retireBy, retiredAs, after, traceFrom, state, trace, FewInserts}
 use Rattle.history.specs.History as History
 use Rattle.history.specs.Cells.{cellsAt, markWordAt, Holds}
 use Rattle.history.specs.HowLong.{IsIdle}
@@ -32,6 +32,7 @@ use Rattle.history.proofs.Cells.{holds-busy, by-word-left, retire-empti
 use Rattle.history.proofs.Histories.{traceFrom-append}
 use Rattle.history.proofs.Ready.{Ready, ready-right}
 use Rattle.history.proofs.Beginning.{history-good}
+use Rattle.history.proofs.Paid.{few-bumps}
 use Rattle.history.proofs.SameSizes.{state-workers, state-buckets}
 use Rattle.history.proofs.Unbroken.{state-unbroken}
 use Rattle.history.proofs.Unrefused.{busy-retires}
@@ -117,7 +118,7 @@ module _ {first : State} (ready : Ready first) (calls : List Call) where
     entry-is : History.entries s (History.retire i) ≡ retired (Going.entry s i) ∷ []
     entry-is = rw done-is
 
-  module _ (i : ℕ) (holds : Holds (recordOf s i)) (later : List Call) where
+  module _ (i : ℕ) (holds : Holds (recordOf s i)) (later : List Call) (fewer : FewInserts first (calls ++ (History.retire i ∷ later))) where
     abbrev holder : Worker
     holder = recordOf s i
 
@@ -161,8 +162,9 @@ module _ {first : State} (ready : Ready first) (calls : List Call) where
     one = one-yes (isChange left) (some-slot i (retires i there busy) holds)
 
     -- The version of the bucket is as much further than the holder's word as it was when the holder was retired, one more, and what moved it
-    -- since: together no more than was ever moved, and so less than 2^32.
+    -- since: together no more than was ever moved, and so, where inserts are few, less than 2^32.
     further : version (markWordAt (state first then) bucket) ≡ version (holder .word) → ⊥
+    unfolding total
     further same =
         let was = history-good ready calls in
         let now = history-good ready then in
@@ -183,8 +185,8 @@ module _ {first : State} (ready : Ready first) (calls : List Call) where
           in-bucket bucket bumpOf left refl,
           one,
           in-bucket-le bucket bumpOf since,
-          now .tickets,
-          now .fits,
+          total-onto bumpOf (trace first then) [],
+          few-bumps ready then fewer,
           version-lt (holder .word),
         )
 
@@ -194,6 +196,6 @@ module _ {first : State} (ready : Ready first) (calls : List Call) where
       record {
         accepted = λ i under busy. rw (done-is i under busy);
         retired = λ i under busy. rw (done-is i under busy) (is-retired i (retires i under busy));
-        never-again = λ i holds later is.
-            further i holds later (ap version is ∙ version-set (recordOf s i .word) (recordOf s i .held) 2);
+        never-again = λ i holds later few is.
+            further i holds later few (ap version is ∙ version-set (recordOf s i .word) (recordOf s i .held) 2);
       }

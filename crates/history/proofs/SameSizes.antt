@@ -1,4 +1,5 @@
--- No call changes the numbers of workers and buckets, nor the version that a board was opened at: they stay as at first. Assumes nothing.
+-- No call changes the numbers of workers and buckets, nor the version that a board was opened at, nor what the floor has to spare: they stay as at
+-- first. Assumes nothing.
 use Prim.Native.Nat.{ℕ}
 use mathlib.Core.Bool.{Bool}
 use mathlib.Core.List.{List, [], _∷_}
@@ -42,6 +43,10 @@ module _ (size : Floor → ℕ) (other : (f : Floor) (t : ℕ) → size (spendin
   unfolding stateFrom
   calls-size s [] = refl
   calls-size s (c ∷ calls) = calls-size (after s c) calls ∙ call-size s c
+
+-- §2.1: a call hands on what the floor has to spare
+pub call-spare : (s : State) (c : Call) → after s c .floor .spare ≡ s .floor .spare
+call-spare = call-size (λ f. f .spare) (λ f t. refl)
 
 -- a call leaves the number of buckets
 pub call-buckets : (s : State) (c : Call) → after s c .floor .buckets ≡ s .floor .buckets

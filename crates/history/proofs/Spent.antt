@@ -198,9 +198,9 @@ module _ {low : ℕ} {s t : State} {e : Turn} (past : List Entry) (ts : List ℕ
   turn-spent =
       let every = each s t i v (act .acts .records) (act .acts .within) in
       record {
-        least = rw (act .acts .last) (old .least);
+        least = rw (act .last) (old .least);
         rising = old .rising;
-        most = rw (act .acts .last) (old .most);
+        most = rw (act .last) (old .most);
         accepted =
             every (λ (j : ℕ) (x : Worker). Inserts x → OneOf ts (x .ticket))
             (λ insert. rw (same-ticket insert) (accepted-was (insert-was insert))) (λ j other. old .accepted j);
@@ -219,9 +219,9 @@ retire-spent {low} {s} {t} {r} past ts act old =
     let i = r .worker in
     let every = each s t i idle (act .acts .records) (act .acts .within) in
     record {
-      least = rw (act .acts .last) (old .least);
+      least = rw (act .last) (old .least);
       rising = old .rising;
-      most = rw (act .acts .last) (old .most);
+      most = rw (act .last) (old .most);
       accepted = every (λ (j : ℕ) (x : Worker). Inserts x → OneOf ts (x .ticket)) (λ insert. absurd (omega arith)) (λ j other. old .accepted j);
       differ =
           each-differ s t i idle (act .acts .records) (act .acts .within)

@@ -1,5 +1,5 @@
 -- A start of a call, accepted or refused, on what demand 3 goes by. Assumes nothing.
-use Prim.Native.Nat.{ℕ, _+_, _*_, _^_, _≤_, _<_}
+use Prim.Native.Nat.{ℕ, _*_, _<_}
 use mathlib.Core.Bool.{Bool, false, not}
 use mathlib.Core.List.{List, []}
 use mathlib.Core.Path.{_≡_, refl, ap, _∙_}
@@ -9,64 +9,41 @@ use lib.ListN.{length, length-map}
 use borrow.Author.Tests.{eqb-true, leb-false, not-false}
 use Rattle.mark.proofs.Choices.{by-cases, passes}
 use Rattle.turn.specs.declared.Worker.{Worker}
-use Rattle.turn.specs.Worker.{idle, started, lookFor, insertOf, removeOf, isIdle, broken}
+use Rattle.turn.specs.Worker.{idle, lookFor, insertOf, removeOf, isIdle, broken}
 use Rattle.turn.specs.Asleep.{awake}
 use Rattle.turn.proofs.Effects.{Aimed, start-aimed}
 use Rattle.turn.proofs.Kept.{idle-is}
 use Rattle.engine.specs.declared.Floor.{Floor}
 use Rattle.engine.specs.declared.Started.{Started}
-use Rattle.engine.specs.Refusals.{wrongSizes, noWorker, spent, startNumber}
-use Rattle.engine.specs.Calls.{spending, startCall}
+use Rattle.engine.specs.Refusals.{wrongSizes, noWorker, startNumber}
+use Rattle.engine.specs.Calls.{startCall}
 use Rattle.engine.proofs.Sizes.{right-listed}
 use Rattle.engine.proofs.Sleeping.{record-awake, put-awake}
 use Rattle.history.specs.History.{State, listedOf, seatOf, startedAs, begun}
-use Rattle.history.proofs.View.{inserting, left, Aware, Starts, Walk, stays, starts}
+use Rattle.history.proofs.View.{left, Aware, Starts, Walk, stays, starts}
 use Rattle.history.proofs.States.{view, same-walk, recount}
 
 -- ---- the three starts
 
--- what holds of the record v and the floor g that a start on floor f leaves, where it is not late
-pub record Fresh (f : Floor) (late : Bool) (v : Worker) (g : Floor) : Type 0 where
+-- the records that a start leaves
+pub data StartOf : Worker → Type 0 where
+  of-look : (lot : ℕ) → StartOf (lookFor lot)
+  of-insert : (lot t : ℕ) → StartOf (insertOf lot t)
+  of-remove : (lot : ℕ) → StartOf (removeOf lot)
+
+-- what holds of such a record: it holds nothing, has read nothing and aims at nothing, and is awake
+record Fresh (v : Worker) : Type 0 where
   pub held : v .held ≡ 3
   pub up : v .asleep ≡ 0
   pub unaware : Aware v → ⊥
   pub aimed : Aimed v
-  pub last : late ≡ false → f .last + inserting v ≤ g .last
-  pub fits : f .last < 2 ^ 32 → g .last < 2 ^ 32
 
-module _ (f : Floor) (lot : ℕ) where
-  -- a start without a ticket, which leaves the floor
-  unticketed :
-      (k p : ℕ) → p ≤ 2 → (Aware (started k p lot 0) → ⊥) → inserting (started k p lot 0) ≡ 0 → Fresh f false (started k p lot 0) f
-  unticketed k p early unaware none =
-      record {
-        held = refl;
-        up = refl;
-        unaware = unaware;
-        aimed = start-aimed k p lot 0 early;
-        last = λ is. omega (arith, none);
-        fits = λ is. is;
-      }
-
-  -- the start of a look
-  pub look-fresh : Fresh f false (lookFor lot) f
-  look-fresh = unticketed 1 2 (omega arith) (λ aware. aware .other refl) refl
-
-  -- the start of a remove
-  pub remove-fresh : Fresh f false (removeOf lot) f
-  remove-fresh = unticketed 3 1 (omega arith) (λ aware. omega (arith, aware .from)) refl
-
-  -- the start of an insert
-  pub insert-fresh : (t : ℕ) → t < 2 ^ 32 → Fresh f (spent f t) (insertOf lot t) (spending f t)
-  insert-fresh t few =
-      record {
-        held = refl;
-        up = refl;
-        unaware = λ aware. omega (arith, aware .from);
-        aimed = start-aimed _ _ _ _ (omega arith);
-        last = λ is. omega (arith, leb-false t (f .last) is);
-        fits = λ is. few;
-      }
+fresh : {v : Worker} → StartOf v → Fresh v
+fresh (of-look lot) = record { held = refl; up = refl; unaware = λ aware. aware .other refl; aimed = start-aimed _ _ _ _ (omega arith) }
+fresh (of-insert lot t) =
+    record { held = refl; up = refl; unaware = λ aware. omega (arith, aware .from); aimed = start-aimed _ _ _ _ (omega arith) }
+fresh (of-remove lot) =
+    record { held = refl; up = refl; unaware = λ aware. omega (arith, aware .from); aimed = start-aimed _ _ _ _ (omega arith) }
 
 -- ---- any of them
 
@@ -97,7 +74,7 @@ pub start-finds-idle :
     (f : Floor) (board : List ℕ) (listed i : ℕ) (w : Worker) (late : Bool) → startNumber f board listed i w late ≡ 0 → w ≡ idle
 start-finds-idle f board listed i w late none = not-refused f board listed i w late none .was
 
-module _ (s : State) (i : ℕ) {late : Bool} {v : Worker} {g : Floor} (fresh : Fresh (s .floor) late v g) where
+module _ (s : State) (i : ℕ) (late : Bool) {v : Worker} (g : Floor) (of : StartOf v) where
   -- its number of refusal
   abbrev number : ℕ
   number = startNumber (s .floor) (s .board) (length (s .records)) i (listedOf s i) late
@@ -122,13 +99,11 @@ module _ (s : State) (i : ℕ) {late : Bool} {v : Worker} {g : Floor} (fresh : F
         who = i;
         within = rw (length-map (s .records) awake) (known .within);
         was = record-awake (s .records) i ∙ ap awake (known .was);
-        records = put-awake (s .records) i v (fresh .up);
+        records = put-awake (s .records) i v (fresh of .up);
         marks = λ c. refl;
-        held = fresh .held;
-        unaware = fresh .unaware;
-        aimed = fresh .aimed;
-        last = fresh .last (known .early);
-        fits = fresh .fits;
+        held = fresh of .held;
+        unaware = fresh of .unaware;
+        aimed = fresh of .aimed;
       }
 
   -- accepted or refused, a start is a walk of no entries

@@ -12,9 +12,9 @@ use Rattle.history.specs.Trace.{Entry}
 use Rattle.history.specs.History.{State, listedOf}
 use Rattle.history.proofs.View.{View, Walk, stays}
 
--- its mark words, its records without anybody's sleep, and its last ticket
+-- its mark words, and its records without anybody's sleep
 abbrev pub view : State → View
-view s = record { marks = λ b. cell (bucketAt (s .board) b) markCell; records = map awake (s .records); last = s .floor .last }
+view s = record { marks = λ b. cell (bucketAt (s .board) b) markCell; records = map awake (s .records) }
 
 -- a worker's record put back as it was is no change
 pub same-walk :

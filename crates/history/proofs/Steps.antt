@@ -1,6 +1,6 @@
 -- Histories step by step, over whole states: what holds of an opened board with nothing behind it, and what every accepted start, every turn
 -- that is done and every retiring that is done keep, holds after every list of calls. Assumes nothing.
-use Prim.Native.Nat.{ℕ, _<_}
+use Prim.Native.Nat.{ℕ, _≤_, _<_}
 use mathlib.Core.Bool.{Bool, true, false, cond}
 use mathlib.Core.List.{List, [], _∷_, _++_, map, append-assoc, append-nil}
 use mathlib.Core.Path.{_≡_, refl, sym, subst}
@@ -33,7 +33,7 @@ use Rattle.history.specs.History.{startedAs, turnedAs, retiredAs, retire
 use Rattle.history.specs.Values.{spentBy, ticketsFrom}
 use Rattle.history.proofs.View.{Starts, Acts}
 use Rattle.history.proofs.States.{view}
-use Rattle.history.proofs.Starting.{Fresh, look-fresh, insert-fresh, remove-fresh, not-refused, accepted-starts}
+use Rattle.history.proofs.Starting.{StartOf, of-look, of-insert, of-remove, not-refused, accepted-starts}
 use Rattle.history.proofs.Acting.{number, done, entry, turned-is, done-accepted, done-acts}
 use Rattle.history.proofs.Retiring as Going
 use Rattle.history.proofs.Runs.{run-state, run-trace}
@@ -45,11 +45,10 @@ pub data Spends (last : ℕ) (v : Worker) (spent : List ℕ) (new : ℕ) : Type 
   unticketed : (v .kind ≡ insertKind → ⊥) → spent ≡ [] → new ≡ last → Spends last v spent new
   ticketed : last < v .ticket → spent ≡ v .ticket ∷ [] → new ≡ v .ticket → Spends last v spent new
 
--- the records that a start leaves
-pub data StartOf : Worker → Type 0 where
-  of-look : (lot : ℕ) → StartOf (lookFor lot)
-  of-insert : (lot t : ℕ) → StartOf (insertOf lot t)
-  of-remove : (lot : ℕ) → StartOf (removeOf lot)
+-- the last ticket never falls
+pub spends-on : {last : ℕ} {v : Worker} {spent : List ℕ} {new : ℕ} → Spends last v spent new → last ≤ new
+spends-on (unticketed other is new) = omega (arith, new)
+spends-on (ticketed above is new) = omega (arith, above, new)
 
 -- an accepted start: a worker's record becomes v, and these tickets are spent
 pub record Begins (s : State) (v : Worker) (spent : List ℕ) (t : State) : Type 0 where
@@ -76,13 +75,14 @@ pub record Turns (s : State) (e : Turn) (t : State) : Type 0 where
   pub report : e .report ≡ reportOf (e .report .bucket) (bucketAt (s .board) (e .report .bucket)) (stepOf s e)
   pub board : t .board ≡ withBucket (s .board) (e .report .bucket) (stepOf s e .bucket)
   pub buckets : t .floor .buckets ≡ s .floor .buckets
+  pub last : t .floor .last ≡ s .floor .last
   -- whoever else is busy has slept through it
   pub listed : t .records ≡ afterTurn (s .records) (e .worker) (stepOf s e .stepped .worker)
 
 module _ (s : State) (i : ℕ) where
   -- a turn that is not refused is done
   pub done-turns : number s i ≡ 0 → Turns s (entry s i) (turnedAs s i (done s i))
-  done-turns none = record { ok = done-accepted s i none; acts = done-acts s i none; report = refl; board = refl; buckets = refl; listed = refl }
+  done-turns none = record { ok = done-accepted s i none; acts = done-acts s i none; report = refl; board = refl; buckets = refl; last = refl; listed = refl }
 
   -- what holds of a turn that is done, and of nothing done, holds of every turn
   pub by-turn :
@@ -106,6 +106,7 @@ pub record Retires (s : State) (r : Retiring) (t : State) : Type 0 where
   pub cells : (b k : ℕ) → (k ≡ markCell → ⊥) → cell (bucketAt (t .board) b) k ≡ cell (bucketAt (s .board) b) k
   pub board : r .was .held ≡ noSlot → t .board ≡ s .board
   pub buckets : t .floor .buckets ≡ s .floor .buckets
+  pub last : t .floor .last ≡ s .floor .last
   pub listed : t .records ≡ set (s .records) (r .worker) idle
 
 module _ (s : State) (i : ℕ) where
@@ -119,6 +120,7 @@ module _ (s : State) (i : ℕ) where
         cells = vacated-cells (s .floor) (s .board) (recordOf s i) (known .0);
         board = vacated-nothing (s .floor) (s .board) (recordOf s i);
         buckets = refl;
+        last = refl;
         listed = refl;
       }
 
@@ -181,7 +183,6 @@ module _ (P : State → List Entry → List ℕ → Type 0) where
 
     start-lasts :
         (s : State) (i : ℕ) (late : Bool) (v : Worker) (g : Floor) (spent : List ℕ)
-        → Fresh (s .floor) late v g
         → StartOf v
         → g .buckets ≡ s .floor .buckets
         → (late ≡ false → Spends (s .floor .last) v spent (g .last))
@@ -190,7 +191,7 @@ module _ (P : State → List Entry → List ℕ → Type 0) where
         → let x = startCall (s .board) (seatOf s i) (listedOf s i) late v g in
         P (startedAs s i x) past (ts ++ cond (eqb (x .refusal) 0) spent [])
     unfolding startCall
-    start-lasts s i late v g spent fresh kind same spends past ts h =
+    start-lasts s i late v g spent kind same spends past ts h =
         let refusal = startNumber (s .floor) (s .board) (length (s .records)) i (listedOf s i) late in
         by-cases (λ (x : Started). P (startedAs s i x) past (ts ++ cond (eqb (x .refusal) 0) spent [])) (eqb refusal 0) _ _
         (λ is.
@@ -198,7 +199,7 @@ module _ (P : State → List Entry → List ℕ → Type 0) where
         let known = not-refused (s .floor) (s .board) (length (s .records)) i (listedOf s i) late none in
         lasts .begins past ts
         (record {
-          starts = accepted-starts s i fresh none;
+          starts = accepted-starts s i late g kind none;
           kind = kind;
           board = refl;
           buckets = same;
@@ -213,28 +214,27 @@ module _ (P : State → List Entry → List ℕ → Type 0) where
     -- a start without a ticket
     plain-lasts :
         (s : State) (i : ℕ) (v : Worker)
-        → Fresh (s .floor) false v (s .floor)
         → StartOf v
         → (v .kind ≡ insertKind → ⊥)
         → (past : List Entry) (ts : List ℕ)
         → P s past ts
         → P (startedAs s i (startCall (s .board) (seatOf s i) (listedOf s i) false v (s .floor))) past (ts ++ [])
-    plain-lasts s i v fresh kind other past ts h =
+    plain-lasts s i v kind other past ts h =
         let x = startCall (s .board) (seatOf s i) (listedOf s i) false v (s .floor) in
         subst (λ (us : List ℕ). P (startedAs s i x) past (ts ++ us)) (nothing (eqb (x .refusal) 0))
-        (start-lasts s i false v (s .floor) [] fresh kind refl (λ is. unticketed other refl refl) past ts h)
+        (start-lasts s i false v (s .floor) [] kind refl (λ is. unticketed other refl refl) past ts h)
       where
         nothing : (t : Bool) → cond {A = List ℕ} t [] [] ≡ []
         nothing true = refl
         nothing false = refl
 
     call-lasts : (s : State) (c : Call) (past : List Entry) (ts : List ℕ) → P s past ts → P (after s c) (past ++ entries s c) (ts ++ spentBy s c)
-    call-lasts s (look i lot) past ts h = rw (append-nil past) (plain-lasts s i (lookFor lot) (look-fresh (s .floor) lot) (of-look lot) (omega arith) past ts h)
+    call-lasts s (look i lot) past ts h = rw (append-nil past) (plain-lasts s i (lookFor lot) (of-look lot) (omega arith) past ts h)
     call-lasts s (insert i lot t) past ts h =
         rw (append-nil past) (start-lasts s i (spent (s .floor) (t .number)) (insertOf lot (t .number)) (spending (s .floor) (t .number)) (t .number ∷ [])
-        (insert-fresh (s .floor) lot (t .number) (t .fits)) (of-insert lot (t .number)) refl
+        (of-insert lot (t .number)) refl
         (λ early. ticketed (leb-false (t .number) (s .floor .last) early) refl refl) past ts h)
-    call-lasts s (remove i lot) past ts h = rw (append-nil past) (plain-lasts s i (removeOf lot) (remove-fresh (s .floor) lot) (of-remove lot) (omega arith) past ts h)
+    call-lasts s (remove i lot) past ts h = rw (append-nil past) (plain-lasts s i (removeOf lot) (of-remove lot) (omega arith) past ts h)
     call-lasts s (turn i) past ts h = rw (append-nil ts) (turn-lasts kept s i past ts h)
     call-lasts s (retire i) past ts h =
         rw (append-nil ts)

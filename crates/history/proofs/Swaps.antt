@@ -1,6 +1,6 @@
 -- Why a swap loses and why it wins, on a walk from a good state: what its worker has in mind is the mark word as it stood at its moment.
 -- Assumes nothing.
-use Prim.Native.Nat.{ℕ, _+_, _^_, _<_}
+use Prim.Native.Nat.{ℕ, _+_, _^_, _≤_, _<_}
 use mathlib.Core.List.{List, [], _∷_, _++_}
 use mathlib.Core.Path.{_≡_, refl, sym, ap, subst, _∙_}
 use mathlib.Core.Logic.{_⊎_, inl, inr}
@@ -17,7 +17,7 @@ use Rattle.history.specs.Reports.{LeftWord, MadeLose}
 use Rattle.history.specs.Cells.{home}
 use Rattle.history.proofs.View.{View, worker, Aware, swapper-aware, Acts, quiet-marks, Walk, stays, starts, acts, new-record}
 use Rattle.history.proofs.Counts.{one-yes, one-or-none, changeOf, commitOf, closeOf, bumpOf}
-use Rattle.history.proofs.Counts.{inBucket, in-bucket, in-bucket-le, in-bucket-commits, onto, total-onto}
+use Rattle.history.proofs.Counts.{inBucket, in-bucket, in-bucket-le, in-bucket-commits, onto, total-append, total-onto}
 use Rattle.history.proofs.Versions.{Tells}
 use Rattle.history.proofs.Words.{act-changes, none-differs}
 use Rattle.history.proofs.Minds.{Minds, renews, keeps, forgets, act-expects}
@@ -193,11 +193,20 @@ module _ (workers n : ℕ) (first : ℕ → ℕ) {s u : View} {es : List Entry} 
     abbrev count : (Entry → ℕ) → ℕ
     count f = total (inBucket b f) between
 
+    -- what is counted between them is no more than is counted in all
+    fewer : total bumpOf between ≤ total bumpOf es
+    unfolding total
+    fewer = omega (
+      arith,
+      ap (total bumpOf) (at .cut),
+      total-append bumpOf (at .before) (acted x ∷ (between ++ (acted y ∷ at .after))),
+      total-append bumpOf between (acted y ∷ at .after),
+    )
+
     -- A swap that wins finds the mark word as it stood at the moment. The version in it says that what moved it since, commits and retirings,
-    -- is a multiple of 2^32; each has a ticket of its own, so that there are fewer: none. With no commit, as many valid slots as then say no
-    -- close either.
-    none-between : 0 < n → Wins y → (count commitOf ≡ 0) × (count closeOf ≡ 0)
-    none-between some won =
+    -- is a multiple of 2^32; where there are fewer, there is none. With no commit, as many valid slots as then say no close either.
+    none-between : 0 < n → total bumpOf es < 2 ^ 32 → Wins y → (count commitOf ≡ 0) × (count closeOf ≡ 0)
+    none-between some few won =
         let under : b < n = rw (at-y .act .bucket) (mod-lt (w .key) some) in
         let same : then .marks b ≡ now .marks b = sym expected ∙ at-y .act .tells .went .won won .1 in
         let told = good-then .tells b under in
@@ -205,9 +214,7 @@ module _ (workers n : ℕ) (first : ℕ → ℕ) {s u : View} {es : List Entry} 
         let bumps = total-onto (inBucket b bumpOf) between past in
         let commits = total-onto (inBucket b commitOf) between past in
         let closes = total-onto (inBucket b closeOf) between past in
-        let few : total (inBucket b bumpOf) (onto between past) < 2 ^ 32 =
-        omega (arith, in-bucket-le b bumpOf (onto between past), good-now .tickets, good-now .fits) in
-        let unmoved : count bumpOf ≡ 0 = omega (arith, told .bumps, tells .bumps, bumps, few) in
+        let unmoved : count bumpOf ≡ 0 = omega (arith, told .bumps, tells .bumps, bumps, in-bucket-le b bumpOf between, fewer, few) in
         let none : count commitOf ≡ 0 = omega (arith, unmoved, in-bucket-commits b between) in
         (none, omega (arith, told .valid, tells .valid, commits, closes, none))
 
@@ -220,9 +227,9 @@ module _ (workers n : ℕ) (first : ℕ → ℕ) {s u : View} {es : List Entry} 
         )
 
     -- between the moment of a won swap and the swap no other worker made a commit or a close in the bucket
-    pub won-since : 0 < n → Wins y → None (CommittedOrClosedByAnother y) between
-    won-since positive won some = by (some .holds .1)
+    pub won-since : 0 < n → total bumpOf es < 2 ^ 32 → Wins y → None (CommittedOrClosedByAnother y) between
+    won-since positive few won some = by (some .holds .1)
       where
         by : IsTurn Commits (some .entry) ⊎ IsTurn Closes (some .entry) → ⊥
-        by (inl commits) = counts commitOf some (one-yes (isCommit (some .entry)) commits) (none-between positive won .0)
-        by (inr closes) = counts closeOf some (one-yes (isClose (some .entry)) closes) (none-between positive won .1)
+        by (inl commits) = counts commitOf some (one-yes (isCommit (some .entry)) commits) (none-between positive few won .0)
+        by (inr closes) = counts closeOf some (one-yes (isClose (some .entry)) closes) (none-between positive few won .1)

@@ -11,7 +11,8 @@ use Rattle.history.specs.Moved.{movedTo}
 use Rattle.history.specs.Values.{ticketsFrom}
 use Rattle.history.proofs.Histories.{stateFrom-then}
 use Rattle.history.proofs.Ready.{Ready}
-use Rattle.history.proofs.Moved.{InStretch, Moves, moves-refused, move-done, state-in-stretch}
+use Rattle.history.proofs.Moved.{InStretch, Moves, moves-refused, move-spare, move-done, state-in-stretch}
+use Rattle.history.proofs.SameSizes.{call-spare}
 use Rattle.history.proofs.Steps.{Lasts, calls-last}
 
 -- ---- one after another
@@ -41,6 +42,13 @@ module _ (s : State) (steps : List Step) (a : Step) where
   unfolding traceThrough
   traceThrough-then =
       traceThrough-append s steps (a ∷ []) ∙ ap (λ (es : List Entry). traceThrough s steps ++ es) (append-nil (entriesBy (stateThrough s steps) a))
+
+-- §2.1: on whatever board, calls and moves hand on what the floor has to spare
+pub spare-stays : (steps : List Step) (s : State) → stateThrough s steps .floor .spare ≡ s .floor .spare
+unfolding stateThrough
+spare-stays [] s = refl
+spare-stays (calls c ∷ more) s = spare-stays more (after s c) ∙ call-spare s c
+spare-stays (moves m ∷ more) s = spare-stays more (movedTo s m) ∙ move-spare s m
 
 -- ---- what all of them keep
 

@@ -1,5 +1,5 @@
--- What demand 3 goes by: of the board the mark words, of the floor the last ticket, and the records; and what can happen to them: an
--- accepted start, and a turn or a retiring that is done. Assumes nothing.
+-- What demand 3 goes by: the mark words of the board, and the records; and what can happen to them: an accepted start, and a turn or a
+-- retiring that is done. Assumes nothing.
 use Prim.Native.Nat.{ℕ, _+_, _%_, _^_, _≤_, _<_}
 use mathlib.Core.Bool.{cond}
 use mathlib.Core.List.{List, [], _∷_}
@@ -18,15 +18,15 @@ use Rattle.turn.proofs.Effects.{Aimed, Moves, Swapper, Went}
 use Rattle.turn.proofs.Kept.{Idles}
 use Rattle.engine.specs.Board.{bucketOf}
 use Rattle.engine.specs.Calls.{recordIn, blank}
-use Rattle.history.specs.Trace.{Turn, Retiring, Entry, acted, retired, who, wasOf, bucketIn}
+use Rattle.history.specs.Trace.{Turn, Retiring, Entry, acted, retired, who, wasOf, bucketIn, total}
+use Rattle.history.proofs.Sums.{total-set}
 use Rattle.history.proofs.Lawful.{committed, closed, changed, bumped, version-effect, quiet-effect}
 use Rattle.history.proofs.Counts.{changeOf, commitOf, closeOf, bumpOf, inBucket, in-bucket, out-of-bucket}
 
--- the mark word of each bucket, the records, and the last ticket
+-- the mark word of each bucket, and the records
 pub record View : Type 0 where
   pub marks : ℕ → ℕ
   pub records : List Worker
-  pub last : ℕ
 
 -- a worker's record
 abbrev pub worker : View → ℕ → Worker
@@ -34,7 +34,7 @@ worker s i = recordIn (s .records) i
 
 -- ---- numbers that a record counts for
 
--- 1 for an insert, which has a ticket and may commit
+-- 1 for an insert, which may commit
 abbrev pub inserting : Worker → ℕ
 inserting w = cond (eqb (w .kind) insertKind) 1 0
 
@@ -64,9 +64,6 @@ pub record Starts (s : View) (v : Worker) (t : View) : Type 0 where
   pub held : v .held ≡ 3
   pub unaware : Aware v → ⊥
   pub aimed : Aimed v
-  -- an insert's ticket is above the last one, and becomes it
-  pub last : s .last + inserting v ≤ t .last
-  pub fits : s .last < 2 ^ 32 → t .last < 2 ^ 32
 
 -- what a turn that is done tells beside: it leaves v
 pub record Told (s : View) (e : Turn) (v : Worker) (t : View) : Type 0 where
@@ -91,7 +88,6 @@ pub record Acts (n : ℕ) (s : View) (e : Entry) (v : Worker) (t : View) : Type 
   pub effect : Effect
   pub within : who e < length (s .records)
   pub records : t .records ≡ set (s .records) (who e) v
-  pub last : t .last ≡ s .last
   pub bucket : bucketIn e ≡ bucketOf (worker s (who e) .key) n
   pub was : wasOf e ≡ worker s (who e)
   -- what the entry counts for is what the effect does
@@ -166,3 +162,25 @@ module _ (s t : View) (i : ℕ) (v : Worker) (records : t .records ≡ set (s .r
       by : (j : ℕ) → Dec (j ≡ i) → P j (worker t j)
       by j (yes is) = rw (is, new-record within) mine
       by j (no other) = rw (old-record j other) (others j other)
+
+-- ---- what the records count for then
+
+-- what is done pays for so much from what its worker's record counted for
+pub act-total :
+    {n : ℕ} {s : View} {e : Entry} {v : Worker} {t : View} (f : Worker → ℕ) (c : ℕ)
+    → Acts n s e v t
+    → c + f v ≤ f (worker s (who e))
+    → c + total f (t .records) ≤ total f (s .records)
+act-total {s = s} {e} {v} f c act pays =
+    let more = total-set f f c 0 v (λ w. omega arith) (s .records) (who e) (act .within) (omega (arith, pays)) in
+    rw (act .records) (omega (arith, more))
+
+-- a start brings no more than its own record counts for
+pub start-total :
+    {s : View} {v : Worker} {t : View} (f g : Worker → ℕ)
+    → Starts s v t
+    → ((w : Worker) → g w ≤ f w)
+    → total g (t .records) ≤ total f (s .records) + g v
+start-total {s} {v} f g start less =
+    let more = total-set f g 0 (g v) v less (s .records) (start .who) (start .within) (omega arith) in
+    rw (start .records) (omega (arith, more))

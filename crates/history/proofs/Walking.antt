@@ -7,13 +7,15 @@ use native.Mathlib.Omega.{arith}
 use lib.Dec.{eqb}
 use lib.ListN.{take}
 use Rattle.engine.specs.declared.Started.{Started}
+use Rattle.engine.specs.Refusals.{spent}
+use Rattle.engine.specs.Calls.{spending}
 use Rattle.history.specs.Trace.{Entry}
 use Rattle.history.specs.History.{State, Call, look, insert, remove, turn, retire, run, show, count, orders, askTotal, askNext, lookBy, insertBy, removeBy, runOf}
 use Rattle.history.specs.History.{after, entries, stateFrom, traceFrom, sumFrom, begun, isStart, bucketsOf, state, trace, inserts, removes}
 use Rattle.history.proofs.Runs.{run-state, run-trace}
 use Rattle.history.proofs.View.{View, Walk, stays, starts, acts}
 use Rattle.history.proofs.States.{view, recount}
-use Rattle.history.proofs.Starting.{look-fresh, insert-fresh, remove-fresh, start-walk}
+use Rattle.history.proofs.Starting.{of-look, of-insert, of-remove, start-walk}
 use Rattle.history.proofs.Acting.{turn-walk}
 use Rattle.history.proofs.Retiring.{retire-walk}
 use Rattle.history.proofs.SameSizes.{call-buckets}
@@ -63,10 +65,10 @@ module _ (n : ℕ) where
   -- a call is a walk, with two changes for an insert and one for a remove
   call-walk :
       (s : State) (c : Call) → s .floor .buckets ≡ n → Walk n (view s) (entries s c) (2 * isStart 2 s c + isStart 3 s c) (view (after s c))
-  call-walk s (look i lot) is = recount _ _ (counted 1 0 refl refl (lookBy s i lot)) (start-walk s i (look-fresh (s .floor) lot) n)
+  call-walk s (look i lot) is = recount _ _ (counted 1 0 refl refl (lookBy s i lot)) (start-walk s i false (s .floor) (of-look lot) n)
   call-walk s (insert i lot t) is =
-      recount _ _ (counted 2 2 refl refl (insertBy s i lot t)) (start-walk s i (insert-fresh (s .floor) lot (t .number) (t .fits)) n)
-  call-walk s (remove i lot) is = recount _ _ (counted 3 1 refl refl (removeBy s i lot)) (start-walk s i (remove-fresh (s .floor) lot) n)
+      recount _ _ (counted 2 2 refl refl (insertBy s i lot t)) (start-walk s i (spent (s .floor) (t .number)) (spending (s .floor) (t .number)) (of-insert lot (t .number)) n)
+  call-walk s (remove i lot) is = recount _ _ (counted 3 1 refl refl (removeBy s i lot)) (start-walk s i false (s .floor) (of-remove lot) n)
   call-walk s (turn i) is = turn-at s i is
   call-walk s (retire i) is = retire-at s i is
   call-walk s (run turns) is = run-walk s turns is

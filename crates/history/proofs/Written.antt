@@ -64,7 +64,7 @@ module _ {s t : State} {e : Turn} (act : Turns s e t) where
   store-writes stores = own-cells act (valueCell (e .was .held)) ∙ turn-ticket bucket (e .was) (act .ok) (stores .0)
 
   -- a value stays, or is the ticket that the turn stores
-  turn-written : (b p : ℕ) → (valueAt t b p ≡ valueAt s b p) ⊎ StoresTicket (valueAt t b p) e
+  pub turn-written : (b p : ℕ) → (valueAt t b p ≡ valueAt s b p) ⊎ StoresTicket (valueAt t b p) e
   turn-written b p = by (ℕ-discrete b (e .report .bucket)) (ℕ-discrete (e .was .place) ticketPlace) (ℕ-discrete p (e .was .held))
     where
       by :

@@ -74,14 +74,14 @@ opened o = openedAs (o .lent) (openBy (o .lent) (o .plan))
 
 -- ---- calls
 
--- §3.5: a ticket has 32 bits
+-- §3.5: a ticket has 64 bits
 pub record Ticket : Type 0 where
   pub number : ℕ
-  pub fits : number < 2 ^ 32
+  pub fits : number < 2 ^ 64
 
--- the ticket that stands in the low 32 bits of a number
+-- the ticket that stands in the low 64 bits of a number
 abbrev pub ticket : ℕ → Ticket
-ticket n = record { number = n % 2 ^ 32; fits = omega arith }
+ticket n = record { number = n % 2 ^ 64; fits = omega arith }
 
 -- §1.1: the calls of the library on an opened board, with any numbers
 pub data Call : Type 0 where
@@ -282,6 +282,10 @@ module _ (first : State) (calls : List Call) where
   -- §11.3: I, the inserts that were accepted
   abbrev pub inserts : ℕ
   inserts = sumFrom (isStart insertKind) first calls
+
+  -- §3.8: inserts are few: no version can have come round
+  abbrev pub FewInserts : Type 0
+  FewInserts = inserts < 2 ^ 32
 
   -- §11.3: R, the removes that were accepted
   abbrev pub removes : ℕ

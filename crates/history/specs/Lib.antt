@@ -20,3 +20,4 @@ pub mod Moves
 pub mod Moved
 pub mod Openings
 pub mod Trials
+pub mod Round

@@ -1,8 +1,9 @@
 -- Moves among the calls (§22). One that is refused leaves everything as it was. One that is accepted leaves a second board in the place of the
 -- first, with which a new stretch begins.
-use Prim.Native.Nat.{ℕ}
+use Prim.Native.Nat.{ℕ, _+_, _^_, _<_}
 use mathlib.Core.Bool.{cond}
 use mathlib.Core.List.{List, [], _∷_, _++_}
+use mathlib.Core.Path.{_≡_}
 use lib.Dec.{eqb}
 use lib.ListN.{length}
 use Rattle.turn.specs.Turn.{After}
@@ -11,7 +12,8 @@ use Rattle.engine.specs.Move.{restNumber}
 use Rattle.hall.specs.Refusals.{hallMoveNumber}
 use Rattle.hall.specs.Calls.{hallMove, movedIndex}
 use Rattle.history.specs.Trace.{Entry}
-use Rattle.history.specs.History.{State, Call, after, entries}
+use Rattle.turn.specs.Worker.{insertKind}
+use Rattle.history.specs.History.{State, Call, after, entries, isStart}
 
 -- a second board that is lent: its words, whatever they are, and how many buckets it is to have
 pub record Lent : Type 0 where
@@ -61,3 +63,19 @@ stateThrough s (a ∷ more) = stateThrough (afterStep s a) more
 unfoldable pub traceThrough : State → List Step → List Entry
 traceThrough s [] = []
 traceThrough s (a ∷ more) = entriesBy s a ++ traceThrough (afterStep s a) more
+
+-- ---- how many inserts
+
+-- the inserts accepted since a stretch began, of which there were k before this step: a move that is accepted begins a new one
+abbrev pub insertsBy : ℕ → State → Step → ℕ
+insertsBy k s (calls c) = k + isStart insertKind s c
+insertsBy k s (moves m) = cond (eqb (moveNumberOf s m) 0) 0 k
+
+-- and after calls and moves one after another
+unfoldable pub insertsThrough : ℕ → State → List Step → ℕ
+insertsThrough k s [] = k
+insertsThrough k s (a ∷ more) = insertsThrough (insertsBy k s a) (afterStep s a) more
+
+-- §3.8: inserts have been few at all times: wherever the calls and moves are cut, fewer than 2^32 were accepted since the opening or the last move
+abbrev pub FewThrough : State → List Step → Type 0
+FewThrough first steps = (earlier later : List Step) → steps ≡ earlier ++ later → insertsThrough 0 first earlier < 2 ^ 32

@@ -166,7 +166,7 @@ pub record AnyOrder (o : Opening) (asked : List Asked) : Type 0 where
   pub reports : ReportsChain (historyOf o asked .first) (historyOf o asked .calls)
   -- calls take as long as is said
   pub lasting : HowLong (historyOf o asked .first) (historyOf o asked .calls)
-  -- whoever is at a call can be retired, and one that comes back after all finds its word never again
+  -- whoever is at a call can be retired, and one that comes back after all finds its word never again while inserts are few
   pub retires : Retirings (historyOf o asked .first) (historyOf o asked .calls)
   -- each record tells how many turns of others its worker has slept through
   pub sleeping : Sleeps (historyOf o asked .first) (historyOf o asked .calls)

@@ -6,7 +6,7 @@ use mathlib.Core.Path.{_≡_}
 use Rattle.mark.specs.Word.{version, nextVersion}
 use Rattle.turn.specs.Bucket.{markCell}
 use Rattle.turn.specs.Places.{filled}
-use Rattle.history.specs.History.{State, Call, retire, workersOf, listedOf, recordOf, retireBy, after, state}
+use Rattle.history.specs.History.{State, Call, retire, workersOf, listedOf, recordOf, retireBy, after, state, FewInserts}
 use Rattle.history.specs.Cells.{cellsAt, markWordAt, markAt, home, Holds}
 use Rattle.history.specs.HowLong.{IsIdle}
 
@@ -41,11 +41,12 @@ pub record Retirings (first : State) (calls : List Call) : Type 0 where
   -- §19.1, §19.2: and then is
   pub retired :
       (i : ℕ) → i < workersOf first → (IsIdle (state first calls) i → ⊥) → IsRetired (state first calls) i (after (state first calls) (retire i))
-  -- §19.5: a worker that held a slot and comes back after all has in mind a word that its bucket never has again, whatever is called since:
-  -- its commit would not be won
+  -- §19.5: a worker that held a slot and comes back after all has in mind a word that its bucket never has again, whatever is called since,
+  -- while inserts are few: its commit would not be won
   pub never-again :
       (i : ℕ)
       → Holds (recordOf (state first calls) i)
       → (later : List Call)
+      → FewInserts first (calls ++ (retire i ∷ later))
       → markWordAt (state first (calls ++ (retire i ∷ later))) (bucketOfWorker (state first calls) i) ≡ filled (recordOf (state first calls) i)
       → ⊥

@@ -22,7 +22,7 @@ same-choice f g false a x b y one two = two
 module _ (s : State) (c : Field.Call) where
   -- the call that a field asks for leaves the state that the sheet's start leaves
   pub after-call :
-      c .ticket < 2 ^ 32
+      c .ticket < 2 ^ 64
       → after s (callOf c) ≡ startedAs s (c .worker) (asked (s .board) (seatOf s (c .worker)) (listedOf s (c .worker)) c)
   unfolding asked
   after-call small =

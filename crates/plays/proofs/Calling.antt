@@ -57,7 +57,7 @@ module _ (o : Opening) (done : List Call) (p : Point) (so : Stands o done p) (c 
       asked-is (p .left .words) (seatAt f i) w (λ y. OneOf (0 ∷ 2 ∷ 4 ∷ 5 ∷ []) (y .refusal))
       (λ late new ticket. rw (start-refusal (p .left .words) (seatAt f i) w late new _) (start-number-is o done p so i late)) c
 
-  module _ (small : c .ticket < 2 ^ 32) (accepted : callField c (p .left) .stop ≡ 0) where
+  module _ (small : c .ticket < 2 ^ 64) (accepted : callField c (p .left) .stop ≡ 0) where
     -- the history's state
     abbrev s : State
     s = state (opened o) done

@@ -11,6 +11,8 @@ pub mod Turning
 pub mod Calling
 pub mod Asked
 pub mod Lines
+-- its inserts are few
+pub mod Few
 -- a play comes to its end, and to its listing
 pub mod Ending
 pub mod Readings

@@ -1,7 +1,7 @@
 -- What a sheet plays is a history. Assumes nothing.
-use Prim.Native.Nat.{ℕ, zero, suc, _+_, _≤_}
+use Prim.Native.Nat.{ℕ, zero, suc, _≤_}
 use mathlib.Core.Path.{_≡_, refl, sym, ap, ap₂, subst, _∙_}
-use mathlib.Core.List.{List, [], _∷_, _++_, append-assoc}
+use mathlib.Core.List.{List, [], _∷_, _++_, map, append-assoc}
 use native.Mathlib.Omega.{arith}
 use lib.Dec.{eqb}
 use lib.ListN.{length, replicate, take, length-replicate}
@@ -27,10 +27,13 @@ use Rattle.history.specs.Counts.{countsOf}
 use Rattle.history.specs.History.{State, Opening, Call, opened, state, trace, stateFrom, traceFrom}
 use Rattle.history.proofs.Opened.{opened-is, opening-ready}
 use Rattle.history.proofs.DemandThree.{demand-three}
+use Rattle.history.specs.Moves as Moves
+use Rattle.clerk.proofs.TheClerk.{the-clerk}
 use Rattle.plays.specs.Points.{Point, goes, over, refused, nextOf, Steps, stays, steps, Bytes, FloorAccepted, firstPoint}
 use Rattle.plays.specs.Plays.{endLines, OnTheWay, LastOf, stopOf, PlaysHistory}
 use Rattle.plays.specs.Plays as Last
 use Rattle.plays.proofs.Readings.{floor-version}
+use Rattle.plays.proofs.Few.{few-played, few-through}
 use Rattle.plays.proofs.Ending.{LastTold, totals, refusal, Finishes, comesTo, finish}
 use Rattle.plays.proofs.Standing.{Stands}
 use Rattle.plays.proofs.Points.{Fine, fine, points-stand}
@@ -215,6 +218,10 @@ module _ {sheet board : List ℕ} (f : FloorAccepted sheet board) (bytes : Bytes
             plan = refl;
             points = λ done p reached. (one-play sheet reached (finishes .reached) (finishes .last), at-point done p reached .stands);
             bound = λ done p reached. rw (at-point done p reached .stands .totals) (demand-three (opening-ready opening) done .bound);
+            few = λ done p reached. few-played f reached (opened opening);
+            demand = λ done p reached. demand-three (opening-ready opening) done;
+            wins = λ done p reached. demand-three (opening-ready opening) done .wins (few-played f reached (opened opening));
+            clerk = λ done p reached. the-clerk opening (map Moves.calls done) (few-through f reached (opened opening));
             refused-by =
                 λ done p number offset reached stop.
                 subst (Fine opening sheet bytes done) stop (fine opening sheet bytes done p (at-point done p reached));

@@ -2,7 +2,7 @@
 -- from that history.
 use Prim.Native.Nat.{ℕ, suc, _+_, _≤_}
 use mathlib.Core.Path.{_≡_}
-use mathlib.Core.List.{List, [], _∷_, _++_}
+use mathlib.Core.List.{List, [], _∷_, _++_, map}
 use lib.ListN.{take}
 use Rattle.turn.specs.declared.Progress.{Progress}
 use Rattle.turn.specs.declared.Progress.the-variants.{GoesOn, Ended}
@@ -10,10 +10,14 @@ use Rattle.turn.specs.Turn.{after}
 use Rattle.engine.specs.declared.Totals.{Totals}
 use Rattle.sheet.specs.Line.{endLine, totalsLine, refusalLine}
 use Rattle.sheet.specs.Listing.{listedIn, played}
-use Rattle.history.specs.Trace.{Turn, Entry, acted, retired}
+use Rattle.history.specs.Trace.{Turn, Entry, acted, retired, Wins, None}
 use Rattle.history.specs.Counts.{countsOf}
+use Rattle.history.specs.Moment.{AtMoment, CommittedOrClosedByAnother}
 use Rattle.history.specs.Numbers.{OneOf}
-use Rattle.history.specs.History.{Opening, Call, opened, state, trace, mostLost}
+use Rattle.history.specs.History.{Opening, Call, opened, state, trace, FewInserts, mostLost}
+use Rattle.history.specs.Demand.{DemandThree}
+use Rattle.history.specs.Moves as Moves
+use Rattle.clerk.specs.Clerk.{Clerk}
 use Rattle.plays.specs.Points.{Point, Next, goes, over, refused, nextOf, Steps, FloorAccepted, firstPoint}
 
 -- the E line of a turn that ended its call, with its number, worker, kind and answer; no line where the call goes on
@@ -72,6 +76,19 @@ pub record PlaysHistory {sheet board : List ℕ} (f : FloorAccepted sheet board)
   pub points : (done : List Call) (p : Point) → Steps sheet (firstPoint f) done p → OnTheWay sheet done p calls end × StandsAs o done p
   -- the lost swaps of the play so far are at most (W - 1)(2I + R), I and R counted from the calls so far
   pub bound : (done : List Call) (p : Point) → Steps sheet (firstPoint f) done p → p .left .handed .totals .lost ≤ mostLost (opened o) done
+  -- §3.8: inserts are few wherever the play comes to: a sheet has no room for 2^32 of them
+  pub few : (done : List Call) (p : Point) → Steps sheet (firstPoint f) done p → FewInserts (opened o) done
+  -- §11.3: demand 3 holds of the play so far
+  pub demand : (done : List Call) (p : Point) → Steps sheet (firstPoint f) done p → DemandThree (opened o) done
+  -- §3.8: and without a premise: where a swap of the play is won, no other worker has committed or closed in its bucket since its moment
+  pub wins :
+      (done : List Call) (p : Point)
+      → Steps sheet (firstPoint f) done p
+      → (at : AtMoment (trace (opened o) done))
+      → Wins (at .turn)
+      → None (CommittedOrClosedByAnother (at .turn)) (at .between)
+  -- §17: and the board of the play so far is one clerk
+  pub clerk : (done : List Call) (p : Point) → Steps sheet (firstPoint f) done p → Clerk (opened o) (map Moves.calls done)
   -- what is refused is refused by 2, 4, 5, 6 or 8, and so by 3 and by 7 never
   pub refused-by :
       (done : List Call) (p : Point) (number offset : ℕ)

@@ -28,7 +28,7 @@ pub data Reading (sheet : List ℕ) (at : ℕ) : Read → Type 0 where
       → 1 ≤ at
       → CallFits (byteAt sheet (at + 4)) long
       → at + 3 + long ≤ length sheet
-      → Reading sheet at (Whole (Calling (callAt sheet at)) (at + 3 + long))
+      → Reading sheet at (Whole (Calling (callAt sheet at long)) (at + 3 + long))
   turning-read : (long : ℕ) → 1 ≤ at → 1 ≤ long → at + 3 + long ≤ length sheet → Reading sheet at (Whole (Turning (spanAt at long)) (at + 3 + long))
   not-read : Reading sheet at (Refused at)
 

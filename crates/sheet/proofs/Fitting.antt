@@ -1,9 +1,10 @@
 -- The lengths that a call and a sheet are tested for: what the tests say, and what they come to. Assumes nothing.
 use Prim.Native.Nat.{ℕ, _+_, _≤_, _<_}
-use mathlib.Core.Bool.{Bool, true, false}
+use mathlib.Core.Bool.{Bool, true, false, _||_}
 use mathlib.Core.Path.{_≡_, refl}
 use mathlib.Core.List.{List}
 use native.Mathlib.Omega.{arith}
+use lib.Dec.{eqb}
 use lib.ListN.{length}
 use borrow.Author.Tests.{eqb-true, le-leb, lt-leb}
 use Rattle.mark.proofs.Choices.{by-cases, not-both}
@@ -13,19 +14,28 @@ use Rattle.sheet.specs.Fields.{byteAt, lengthAt, isWhole, callFits, fiel
 
 -- ---- a call's length
 
--- 10 or 14, by its kind
+-- 10, and for an insert 14 or 18, by its ticket of four bytes or of eight
 pub data CallFits (kind long : ℕ) : Type 0 where
   fits-short : long ≡ 10 → (kind ≡ 2 → ⊥) → CallFits kind long
-  fits-insert : kind ≡ 2 → long ≡ 14 → CallFits kind long
+  fits-four : kind ≡ 2 → long ≡ 14 → CallFits kind long
+  fits-eight : kind ≡ 2 → long ≡ 18 → CallFits kind long
 
--- the test says so
+-- the test of an insert's length says so
+insert-fits : (kind long : ℕ) → kind ≡ 2 → (eqb long 14 || eqb long 18) ≡ true → CallFits kind long
+insert-fits kind long insert is = either (eqb long 14) refl is
+  where
+    either : (t : Bool) → eqb long 14 ≡ t → (t || eqb long 18) ≡ true → CallFits kind long
+    either true four on = fits-four insert (eqb-true long 14 four)
+    either false other on = fits-eight insert (eqb-true long 18 on)
+
+-- the test of a call's length says so
 pub call-fits : (kind long : ℕ) → callFits kind long ≡ true → CallFits kind long
 unfolding callFits
 call-fits kind long =
     by-cases (λ (t : Bool). t ≡ true → CallFits kind long) _ _ _
     (λ look is. let k = eqb-true kind 1 look in fits-short (eqb-true long 10 is) (omega arith))
     (λ other. by-cases (λ (t : Bool). t ≡ true → CallFits kind long) _ _ _
-    (λ insert is. fits-insert (eqb-true kind 2 insert) (eqb-true long 14 is))
+    (λ insert is. insert-fits kind long (eqb-true kind 2 insert) is)
     (λ none. by-cases (λ (t : Bool). t ≡ true → CallFits kind long) _ _ _
     (λ remove is. let k = eqb-true kind 3 remove in fits-short (eqb-true long 10 is) (omega arith))
     (λ off is. not-both false refl is)))
@@ -33,15 +43,14 @@ call-fits kind long =
 -- a call's value is 10 bytes long or more
 pub fits-long : {kind long : ℕ} → CallFits kind long → 10 ≤ long
 fits-long (fits-short is other) = omega arith
-fits-long (fits-insert insert is) = omega arith
+fits-long (fits-four insert is) = omega arith
+fits-long (fits-eight insert is) = omega arith
 
--- and an insert's 14
-pub insert-long : (kind long : ℕ) → callFits kind long ≡ true → kind ≡ 2 → long ≡ 14
-insert-long kind long fits insert = of-insert (call-fits kind long fits)
-  where
-    of-insert : CallFits kind long → long ≡ 14
-    of-insert (fits-short is other) = absurd (other insert)
-    of-insert (fits-insert k is) = is
+-- and 18 at most, so that a ticket takes 8 bytes at most
+pub fits-within : {kind long : ℕ} → CallFits kind long → long ≤ 18
+fits-within (fits-short is other) = omega arith
+fits-within (fits-four insert is) = omega arith
+fits-within (fits-eight insert is) = omega arith
 
 -- a shorter one fits no call
 pub short-fits-not : (kind long : ℕ) → long < 10 → callFits kind long ≡ false

@@ -1,6 +1,6 @@
 -- The fields of a sheet.
-use Prim.Native.Nat.{ℕ, zero, suc, _+_, _*_, _≤_}
-use mathlib.Core.Bool.{Bool, false, cond, _&&_, not}
+use Prim.Native.Nat.{ℕ, zero, suc, _+_, _*_, _-_, _≤_}
+use mathlib.Core.Bool.{Bool, false, cond, _&&_, _||_, not}
 use mathlib.Core.List.{List}
 use lib.ListN.{length, getD}
 use lib.Dec.{eqb, leb}
@@ -38,25 +38,25 @@ isWhole sheet at = leb (at + 3 + lengthAt sheet at) (length sheet)
 abbrev pub planAt : List ℕ → ℕ → Plan
 planAt sheet at = record { workers = byteAt sheet (at + 3); buckets = numberAt sheet (at + 4) 2; version = numberAt sheet (at + 6) 4 }
 
--- §8.3: whether a call of this kind has this length
+-- §8.3: whether a call of this kind has this length; an insert's ticket has four bytes or eight
 unfoldable pub callFits : ℕ → ℕ → Bool
 callFits kind long =
     cond (eqb kind lookKind) (eqb long 10)
-    (cond (eqb kind insertKind) (eqb long 14)
+    (cond (eqb kind insertKind) (eqb long 14 || eqb long 18)
     (cond (eqb kind removeKind) (eqb long 10) false))
 
--- §8.3: an insert's ticket; another call has none
-unfoldable pub ticketAt : List ℕ → ℕ → ℕ → ℕ
-ticketAt sheet at kind = cond (eqb kind insertKind) (numberAt sheet (at + 13) 4) 0
+-- §8.3: an insert's ticket, which takes what its value has beyond 10 bytes; another call has none
+unfoldable pub ticketAt : List ℕ → ℕ → ℕ → ℕ → ℕ
+ticketAt sheet at kind long = cond (eqb kind insertKind) (numberAt sheet (at + 13) (long - 10)) 0
 
--- §8.3: worker, kind, lot and ticket
-abbrev pub callAt : List ℕ → ℕ → Call
-callAt sheet at =
+-- §8.3: lot, ticket, worker and kind, from a value of this length
+abbrev pub callAt : List ℕ → ℕ → ℕ → Call
+callAt sheet at long =
     record {
+      lot = numberAt sheet (at + 5) 8;
+      ticket = ticketAt sheet at (byteAt sheet (at + 4)) long;
       worker = byteAt sheet (at + 3);
       kind = byteAt sheet (at + 4);
-      lot = numberAt sheet (at + 5) 8;
-      ticket = ticketAt sheet at (byteAt sheet (at + 4));
     }
 
 -- §8.4: where the turns stand
@@ -75,7 +75,7 @@ openingAt sheet at long = wholeIf (eqb at 0 && eqb long 7) (Opening (planAt shee
 
 -- §8.3: a call, and not where the sheet begins
 unfoldable pub callingAt : List ℕ → ℕ → ℕ → Read
-callingAt sheet at long = wholeIf (not (eqb at 0) && callFits (byteAt sheet (at + 4)) long) (Calling (callAt sheet at)) at long
+callingAt sheet at long = wholeIf (not (eqb at 0) && callFits (byteAt sheet (at + 4)) long) (Calling (callAt sheet at long)) at long
 
 -- §8.4: turns, at least one, and not where the sheet begins
 unfoldable pub turningAt : ℕ → ℕ → Read

@@ -38,7 +38,7 @@ openedDesk f = deskOf f (replicate 64 idle) noTurns
 
 -- no floor is open
 abbrev pub shutFloor : Floor
-shutFloor = record { workers = 0; buckets = 0; last = 0; version = 0 }
+shutFloor = record { workers = 0; buckets = 0; last = 0; version = 0; spare = 0 }
 
 -- the desk before any field
 abbrev pub shutDesk : Desk

@@ -12,7 +12,9 @@ use Rattle.engine.specs.declared.Totals.{Totals}
 use Rattle.engine.specs.Room.{Few}
 use Rattle.sheet.specs.Play.{Desk}
 
--- the most that a listing takes: an E line of 37 bytes for each 13 bytes of the sheet, which a call takes at least, and a last line of 26
+-- the most that a listing takes: an E line of 37 bytes for each 13 bytes of the sheet, and a last line of 26. A call has one E line, and takes
+-- 13 bytes of the sheet at least: a look's field or a remove's does, an insert's takes 17 or 21. In an E line there are at most 5 digits for
+-- the turn, 3 for the worker, 3 for the kind and 20 for the answer, a ticket of 64 bits too, with E, four spaces and the line feed
 abbrev pub longest : ℕ
 longest = 37 * 16384 / 13 + 26
 

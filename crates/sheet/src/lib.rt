@@ -24,15 +24,16 @@ mod play; // a start and a turn of one worker
 // §6.9: the most bytes that a sheet may have.
 pub const LIMIT: usize = 16384;
 
-// Every listing fits: 37 bytes for each 13 of the longest sheet, and a last line of 26.
+// Every listing fits: an E line of 37 bytes for each 13 of the longest sheet, and a last line of 26. A call has one E line, whose answer has
+// 20 digits at most, and takes a field of 13 bytes at least, as a look's and a remove's; an insert's is longer, 17 or 21.
 pub const ROOM: usize = 37 * LIMIT / 13 + 26;
 
 // A call that a sheet asks for.
 pub struct Call {
+    pub lot: u64,
+    pub ticket: u64,
     pub worker: u8,
     pub kind: u8,
-    pub lot: u64,
-    pub ticket: u32,
 }
 
 // Where the turns of a field stand in the sheet.
@@ -113,6 +114,7 @@ fn shut() -> Floor
         buckets: 0,
         last: 0,
         version: 0,
+        spare: 0,
     }
 }
 

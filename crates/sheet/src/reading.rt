@@ -53,25 +53,25 @@ fn opening(sheet: &[u8], at: usize, length: usize) -> Read
     Read::Whole(Field::Opening(plan), at + 10)
 }
 
-// §8.3: an insert has its ticket behind the lot.
+// §8.3: an insert has its ticket behind the lot, in four bytes or in eight.
 fn call_fits(kind: u8, length: usize) -> bool
     ensures { λ r. ⌜ r ≡ callFits kind length ⌝ }
 {
     match kind {
         record::LOOK => length == 10,
-        record::INSERT => length == 14,
+        record::INSERT => length == 14 || length == 18,
         record::REMOVE => length == 10,
         _ => false,
     }
 }
 
-// §8.3: an insert's ticket; another call has none.
-fn ticket(sheet: &[u8], at: usize, kind: u8, length: usize) -> u32
+// §8.3: an insert's ticket, which takes what its value has beyond 10 bytes; another call has none.
+fn ticket(sheet: &[u8], at: usize, kind: u8, length: usize) -> u64
     requires { ⌜ Value (now sheet) at length × (callFits kind length ≡ true) ⌝ }
-    ensures { λ r. ⌜ r ≡ ticketAt (now (sheet .entry)) at kind ⌝ }
+    ensures { λ r. ⌜ r ≡ ticketAt (now (sheet .entry)) at kind length ⌝ }
 {
     if kind == record::INSERT {
-        return number(sheet, at + 13, 4) as u32;
+        return number(sheet, at + 13, length - 10);
     }
     0
 }
@@ -92,10 +92,10 @@ fn calling(sheet: &[u8], at: usize, length: usize) -> Read
         return Read::Refused(at);
     }
     let call = Call {
-        worker: sheet[at + 3],
-        kind,
         lot: number(sheet, at + 5, 8),
         ticket: ticket(sheet, at, kind, length),
+        worker: sheet[at + 3],
+        kind,
     };
     Read::Whole(Field::Calling(call), at + 3 + length)
 }

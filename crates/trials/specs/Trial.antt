@@ -105,7 +105,7 @@ pub record Standing : Type 0 where
 
 -- before the opening there is nothing
 abbrev pub nothing : Standing
-nothing = record { board = []; floor = record { workers = 0; buckets = 0; last = 0; version = 0 }; records = []; had = []; counted = noTurns }
+nothing = record { board = []; floor = record { workers = 0; buckets = 0; last = 0; version = 0; spare = 0 }; records = []; had = []; counted = noTurns }
 
 -- what came of a request, and how the trial stands then
 pub record Came : Type 0 where

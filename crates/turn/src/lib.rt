@@ -9,13 +9,13 @@ pub mod bucket; // broken buckets
 pub mod retire; // a worker that will not return
 mod place; // the place table
 
-// §3.2: what a worker is at. Widest fields first, so that there is no padding to copy around.
+// §3.2: what a worker is at. Widest fields first, and they fill it: no byte of it is left to chance.
 #[repr(C)]
 pub struct Worker {
     pub key: u64,
     pub word: u64,
     pub seen: u64,
-    pub ticket: u32,
+    pub ticket: u64,
     pub asleep: u32,
     pub slot: u8,
     pub kind: u8,

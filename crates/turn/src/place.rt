@@ -222,7 +222,7 @@ pub fn step(bucket: &mut [u64], w: Worker) -> Stepped
 {
     let place = w.place;
     let key = w.key;
-    let ticket = w.ticket as u64;
+    let ticket = w.ticket;
     let key_cell = 1 + w.slot as usize;
     let value_cell = 4 + w.slot as usize;
     let held_key = 1 + w.held as usize;

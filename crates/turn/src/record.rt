@@ -32,7 +32,7 @@ pub fn look_for(lot: u64) -> Worker
 }
 
 // §3.4: the record of an insert that starts.
-pub fn insert_of(lot: u64, ticket: u32) -> Worker
+pub fn insert_of(lot: u64, ticket: u64) -> Worker
     ensures { λ r. ⌜ r ≡ insertOf lot ticket ⌝ }
 {
     started(INSERT, 1, lot, ticket)
@@ -46,7 +46,7 @@ pub fn remove_of(lot: u64) -> Worker
 }
 
 // §3.4: the one place of this crate where a record is written out.
-fn started(kind: u8, place: u8, lot: u64, ticket: u32) -> Worker
+fn started(kind: u8, place: u8, lot: u64, ticket: u64) -> Worker
     ensures { λ r. ⌜ r ≡ started kind place lot ticket ⌝ }
 {
     Worker {
@@ -143,7 +143,7 @@ fn insert_holds(place: u8, held: u8) -> bool
 }
 
 // §3.7: what a look asks of a busy record, beside its slot.
-fn look_fits(place: u8, ticket: u32, held: u8, word: u64) -> bool
+fn look_fits(place: u8, ticket: u64, held: u8, word: u64) -> bool
     ensures { λ r. ⌜ r ≡ fits 1 place ticket held word ⌝ }
 {
     if !look_stands(place) {
@@ -159,7 +159,7 @@ fn look_fits(place: u8, ticket: u32, held: u8, word: u64) -> bool
 }
 
 // §3.7: what an insert asks of a busy record, beside its slot.
-fn insert_fits(place: u8, ticket: u32, held: u8, word: u64) -> bool
+fn insert_fits(place: u8, ticket: u64, held: u8, word: u64) -> bool
     ensures { λ r. ⌜ r ≡ fits 2 place ticket held word ⌝ }
 {
     if !insert_stands(place) {
@@ -175,7 +175,7 @@ fn insert_fits(place: u8, ticket: u32, held: u8, word: u64) -> bool
 }
 
 // §3.7: what a remove asks of a busy record, beside its slot.
-fn remove_fits(place: u8, ticket: u32, held: u8, word: u64) -> bool
+fn remove_fits(place: u8, ticket: u64, held: u8, word: u64) -> bool
     ensures { λ r. ⌜ r ≡ fits 3 place ticket held word ⌝ }
 {
     if !remove_stands(place) {

@@ -17,7 +17,7 @@ pub struct Call {
 
 impl Call {
     /// A call from its start: the code runs up to its first memory action and stands there.
-    pub fn start(kind: u8, key: u64, ticket: u32, bucket: Bucket) -> Call {
+    pub fn start(kind: u8, key: u64, ticket: u64, bucket: Bucket) -> Call {
         let record = Record {
             kind,
             key,

@@ -43,8 +43,8 @@ pub struct Case {
     pub worker: u64,
     /// For an opening: N.
     pub lot: u64,
-    /// For an opening: the version.
-    pub ticket: u32,
+    /// For an opening: the version is in its low half.
+    pub ticket: u64,
     pub board: Vec<u64>,
     pub list: List,
     pub index: Vec<u64>,
@@ -78,7 +78,7 @@ impl Case {
         let floor = Floor {
             workers: bytes.number(),
             buckets: bytes.number(),
-            last_ticket: bytes.number() as u32,
+            last_ticket: bytes.number(),
             version: bytes.number() as u32,
         };
         Case {
@@ -86,7 +86,7 @@ impl Case {
             floor,
             worker: bytes.number(),
             lot: bytes.number(),
-            ticket: bytes.number() as u32,
+            ticket: bytes.number(),
             board: bytes.words(MOST_WORDS),
             list: bytes.list(),
             index: bytes.words(MOST_INDEX_WORDS),
@@ -95,17 +95,22 @@ impl Case {
         }
     }
 
+    /// The version that an opening asks for: of the number that is a ticket in other calls, what 32 bits can have.
+    pub fn version(&self) -> u32 {
+        self.ticket as u32
+    }
+
     /// The bytes of the case, in the shortest form.
     pub fn write(&self) -> Vec<u8> {
         let mut body = vec![self.call];
         for number in [
             self.floor.workers,
             self.floor.buckets,
-            self.floor.last_ticket.into(),
+            self.floor.last_ticket,
             self.floor.version.into(),
             self.worker,
             self.lot,
-            self.ticket.into(),
+            self.ticket,
         ] {
             push_number(&mut body, number);
         }
@@ -168,7 +173,7 @@ pub fn fields(record: &Record) -> [u64; 9] {
         record.kind.into(),
         record.place.into(),
         record.key,
-        record.ticket.into(),
+        record.ticket,
         record.slot.into(),
         record.word,
         record.held.into(),
@@ -217,7 +222,7 @@ impl Bytes<'_> {
             kind: self.number() as u8,
             place: self.number() as u8,
             key: self.number(),
-            ticket: self.number() as u32,
+            ticket: self.number(),
             slot: self.number() as u8,
             word: self.number(),
             held: self.number() as u8,

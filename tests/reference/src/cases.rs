@@ -14,6 +14,7 @@ mod ranges;
 mod refusals;
 mod reports;
 mod retire;
+mod tickets;
 
 use crate::case::{with_length, Case};
 use crate::random::Random;
@@ -53,6 +54,7 @@ fn round(seed: u64) -> Bodies {
     index::make(&mut bodies);
     display::make(&mut bodies);
     moving::make(&mut bodies);
+    tickets::make(&mut bodies);
     loose::make(&mut bodies);
     bodies
 }

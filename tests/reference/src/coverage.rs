@@ -12,11 +12,24 @@ mod ranges;
 mod refusals;
 mod reports;
 mod retire;
+mod tickets;
 
 use crate::case::Case;
 use crate::outcome::Outcome;
 use std::collections::HashMap;
 use std::fmt::Write;
+
+/// A number by the name that points have for it.
+fn shown(number: u64) -> String {
+    const HIGHEST_BIT: u64 = 1 << 63;
+    const BELOW_IT: u64 = HIGHEST_BIT - 1;
+    match (number, u64::MAX - number) {
+        (BELOW_IT, _) => "2^63-1".into(),
+        (HIGHEST_BIT, _) => "2^63".into(),
+        (_, above @ 0..8) => format!("2^64-{}", above + 1),
+        _ => number.to_string(),
+    }
+}
 
 /// How often each point was met.
 pub struct Coverage {
@@ -49,6 +62,7 @@ impl Coverage {
         index::see(case, outcome, &mut met);
         display::see(case, outcome, &mut met);
         moving::see(case, outcome, &mut met);
+        tickets::see(case, outcome, &mut met);
         met.sort();
         met.dedup();
         for point in met {

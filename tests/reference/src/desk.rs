@@ -29,7 +29,7 @@ pub const MOST_DEPTH: u64 = 24;
 pub struct Floor {
     pub workers: u64,
     pub buckets: u64,
-    pub last_ticket: u32,
+    pub last_ticket: u64,
     /// The opening's, which every board has that a move comes to.
     pub version: u32,
 }
@@ -134,7 +134,7 @@ impl Desk {
     }
 
     /// §3.4; refused as §7.2 has it.
-    pub fn start(&mut self, kind: u8, worker: u64, lot: u64, ticket: u32) -> Result<(), Refusal> {
+    pub fn start(&mut self, kind: u8, worker: u64, lot: u64, ticket: u64) -> Result<(), Refusal> {
         self.measure(self.floor.workers, self.floor.buckets)?;
         self.measure_list(self.floor.workers)?;
         let at = self.sound_worker(worker)?;

@@ -84,7 +84,7 @@ pub async fn clht_put(f: &Frame) -> bool {
             }
             // line 38
             if !f.bound_for(8..=8) {
-                f.store_val(7, f.held(), f.new_val as u64).await;
+                f.store_val(7, f.held(), f.new_val).await;
             }
             // line 39
             f.store_key(8, f.held(), f.key).await;

@@ -15,7 +15,7 @@ pub struct Frame {
     kind: u8,
     pub key: u64,
     /// `val` of figure 7; the ticket.
-    pub new_val: u32,
+    pub new_val: u64,
     /// `i`; the slot. It is also the empty spot of figure 7, line 26, until that spot is won.
     pub i: Cell<u8>,
     /// `s`; the word.

@@ -104,7 +104,7 @@ fn call(case: &Case, desk: &mut Desk, second: &Board, told: &mut Vec<Told>) -> A
         ..
     } = case;
     match case.call {
-        case::OPEN => Answer::Alone(desk.open(worker, lot, ticket)),
+        case::OPEN => Answer::Alone(desk.open(worker, lot, case.version())),
         case::LOOK | case::INSERT | case::REMOVE => {
             Answer::Alone(desk.start(case.call, worker, lot, ticket))
         }
@@ -136,10 +136,7 @@ pub fn line(case: &Case, outcome: &Outcome) -> String {
         version,
     } = outcome.floor;
     push(&mut line, format_args!("|"));
-    push_numbers(
-        &mut line,
-        &[workers, buckets, last_ticket.into(), version.into()],
-    );
+    push_numbers(&mut line, &[workers, buckets, last_ticket, version.into()]);
     push(&mut line, format_args!("|"));
     push_words(&mut line, &outcome.board);
     push(&mut line, format_args!("|"));

@@ -15,7 +15,7 @@ pub struct Record {
     pub kind: u8,
     pub place: u8,
     pub key: u64,
-    pub ticket: u32,
+    pub ticket: u64,
     pub slot: u8,
     pub word: u64,
     pub held: u8,

@@ -22,7 +22,7 @@ enum Field<'a> {
         worker: u8,
         kind: u8,
         lot: u64,
-        ticket: u32,
+        ticket: u64,
     },
     Turns(&'a [u8]),
 }
@@ -130,7 +130,7 @@ fn read_call(value: &[u8]) -> Option<Field<'_>> {
     let (&lot, rest) = rest.split_first_chunk::<8>()?;
     let ticket = match (kind, rest) {
         (LOOK | REMOVE, []) => 0,
-        (INSERT, &[t3, t2, t1, t0]) => u32::from_be_bytes([t3, t2, t1, t0]),
+        (INSERT, rest) => read_ticket(rest)?,
         _ => return None,
     };
     Some(Field::Call {
@@ -139,6 +139,17 @@ fn read_call(value: &[u8]) -> Option<Field<'_>> {
         lot: u64::from_be_bytes(lot),
         ticket,
     })
+}
+
+/// §8.3: a ticket in the short form or in the long one.
+fn read_ticket(bytes: &[u8]) -> Option<u64> {
+    match *bytes {
+        [t3, t2, t1, t0] => Some(u32::from_be_bytes([t3, t2, t1, t0]).into()),
+        [t7, t6, t5, t4, t3, t2, t1, t0] => {
+            Some(u64::from_be_bytes([t7, t6, t5, t4, t3, t2, t1, t0]))
+        }
+        _ => None,
+    }
 }
 
 /// The turns of one field; what was done of them stands, also where one is refused.

@@ -36,13 +36,22 @@ fn floor(workers: u8, buckets: u16, version: u32) -> Vec<u8> {
     field(1, &value.concat())
 }
 
-fn call(worker: u8, kind: u8, lot: u64, ticket: u32) -> Vec<u8> {
+/// A call's field; a look and a remove have no ticket there.
+fn call(random: &mut Random, worker: u8, kind: u8, lot: u64, ticket: u64) -> Vec<u8> {
     let mut value = vec![worker, kind];
     value.extend(lot.to_be_bytes());
     if kind == INSERT {
-        value.extend(ticket.to_be_bytes());
+        value.extend(written(random, ticket));
     }
     field(2, &value)
+}
+
+/// §8.3: a ticket in its long form, or in the short one if that can have it.
+fn written(random: &mut Random, ticket: u64) -> Vec<u8> {
+    match u32::try_from(ticket) {
+        Ok(short) if random.once_in(2) => short.to_be_bytes().to_vec(),
+        _ => ticket.to_be_bytes().to_vec(),
+    }
 }
 
 /// What a sheet has come to while it is made, so that most of its fields are accepted.
@@ -52,8 +61,22 @@ struct Making {
     lots: Vec<u64>,
     /// Whether worker 0 sleeps between its turns, while others end whole calls on the same lots.
     sleeper: bool,
+    /// Tickets are above this one.
+    below_tickets: u64,
     fields: Vec<Vec<u8>>,
 }
+
+/// Where tickets begin: at 1; about where they need more than four bytes, so that there are some of either sort; and near the highest.
+const BELOW_TICKETS: [u64; 8] = [
+    0,
+    0,
+    0,
+    4_294_967_290,
+    4_294_967_294,
+    4_294_967_295,
+    (1 << 63) - 4,
+    u64::MAX - 8,
+];
 
 /// The fields of a history, the floor first.
 fn history(random: &mut Random, sleeper: bool) -> Vec<Vec<u8>> {
@@ -74,8 +97,10 @@ fn history(random: &mut Random, sleeper: bool) -> Vec<Vec<u8>> {
         })
         .collect();
     let desk = Desk::opened(workers, buckets, version, Manner::Living);
+    let below_tickets = random.pick(&BELOW_TICKETS);
     let mut making = Making {
         random,
+        below_tickets,
         desk: desk.expect("sizes in their ranges"),
         lots,
         sleeper,
@@ -127,11 +152,21 @@ impl Making {
         };
         let kind = self.random.pick(kinds);
         let lot = self.random.pick(&self.lots);
-        let last = self.desk.floor.last_ticket;
-        let ticket = last.saturating_add(1 + self.random.below(2) as u32);
+        let ticket = self.ticket();
         if self.desk.start(kind, worker, lot, ticket).is_ok() {
-            self.fields.push(call(worker as u8, kind, lot, ticket));
+            let made = call(&mut self.random, worker as u8, kind, lot, ticket);
+            self.fields.push(made);
         }
+    }
+
+    /// A ticket just above the last one, or seldom far above it, if there is one.
+    fn ticket(&mut self) -> u64 {
+        let last = self.desk.floor.last_ticket.max(self.below_tickets);
+        last.saturating_add(match self.random.below(24) {
+            0 => 1 << 32,
+            1 => 4_294_967_295,
+            _ => 1 + self.random.below(2),
+        })
     }
 
     /// How many turns a worker gets at a time.
@@ -164,11 +199,13 @@ impl Making {
         let workers = self.desk.floor.workers;
         let worker = self.random.below(workers + 2) as u8;
         let kind = self.random.pick(&[LOOK, INSERT, REMOVE]);
-        let ticket = self.desk.floor.last_ticket;
+        let last = self.desk.floor.last_ticket;
+        let ticket = self.random.pick(&[last, last, last & 0xffff_ffff, 0]);
         let lot = self.random.pick(&self.lots);
-        let made = match self.random.below(4) {
-            0 => call(worker, kind, lot, ticket),
-            1 => call(worker, INSERT, lot, ticket),
+        let random = &mut self.random;
+        let made = match random.below(4) {
+            0 => call(random, worker, kind, lot, ticket),
+            1 => call(random, worker, INSERT, lot, ticket),
             2 => field(3, &[worker, 255]),
             _ => field(3, &[worker]),
         };
@@ -204,15 +241,23 @@ fn malformed(random: &mut Random) -> Vec<u8> {
         false => history(random, false),
     };
     let kind = random.pick(&[0, 1, 2, 3, 4, 255]);
-    let value = |length: usize| [&[0, kind][..], &vec![0; length]].concat();
-    fields.push(match random.below(6) {
+    let value = |kind: u8, length: usize| [&[0, kind][..], &vec![7; length - 2]].concat();
+    fields.push(match random.below(9) {
         0 => field(
             1,
             &[1, 0, 1, 0, 0, 0, 0, 0, 0][..6 + random.below(4) as usize],
         ),
-        1 => field(2, &value(random.pick(&[7, 9, 11, 13]))),
-        2 | 3 => field(2, &value(random.pick(&[8, 12]))),
-        4 => field(3, &[]),
+        1 => field(2, &value(kind, random.pick(&[2, 9, 11, 13, 15, 26]))),
+        2 | 3 => field(2, &value(kind, random.pick(&[10, 14, 18]))),
+        4 | 5 => field(
+            2,
+            &value(INSERT, random.pick(&[10, 12, 13, 15, 16, 17, 19, 22])),
+        ),
+        6 => {
+            let kind = random.pick(&[LOOK, REMOVE]);
+            field(2, &value(kind, random.pick(&[14, 18])))
+        }
+        7 => field(3, &[]),
         _ => field(random.pick(&[0, 4, 129, 255]), &[0]),
     });
     join(&fields)
@@ -235,7 +280,7 @@ fn refused_floor(random: &mut Random) -> Vec<u8> {
     let buckets = random.pick(&[0, 1, 256, 257, 512, 65_535]);
     let mut fields = vec![floor(workers, buckets, random.any() as u32)];
     match random.below(4) {
-        0 => fields.push(call(workers, LOOK, 7, 0)),
+        0 => fields.push(call(random, workers, LOOK, 7, 0)),
         1 => fields.push(vec![9]),
         2 => fields.push(fields[0].clone()),
         _ => (),
@@ -251,10 +296,10 @@ fn long(random: &mut Random) -> Vec<u8> {
     };
     let mut sheet = floor(1, 1, random.version());
     for (lot, turns) in [(1, 11), (2, 12), (3, 13)] {
-        sheet.extend(call(0, INSERT, lot, lot as u32));
+        sheet.extend(call(random, 0, INSERT, lot, lot));
         sheet.extend(field(3, &vec![0; turns]));
     }
-    sheet.extend(call(0, INSERT, 4, 4));
+    sheet.extend(call(random, 0, INSERT, 4, 4));
     while sheet.len() < size {
         let left = size - sheet.len();
         let turns = (left.max(4) - 3).min(20_000);

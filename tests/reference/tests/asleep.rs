@@ -378,7 +378,7 @@ fn a_number_in_an_idle_record() {
         let list = case.list.clone();
         for kind in [LOOK, INSERT, REMOVE] {
             let mut desk = brought(&case);
-            assert_eq!(desk.start(kind, 1, 7, u32::MAX), Err(3));
+            assert_eq!(desk.start(kind, 1, 7, u64::MAX), Err(3));
             assert_eq!(desk.list, list);
         }
         let mut desk = brought(&case);

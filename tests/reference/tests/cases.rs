@@ -30,6 +30,14 @@ fn numbers_read_back() {
             case.index = vec![0, number, number, number, 1, 0];
             case.second = vec![0, 0, number, 9];
             case.floor.version = number as u32;
+            (case.floor.last_ticket, case.ticket) = (number, !number);
+            case.list = List {
+                length: 1,
+                records: vec![Record {
+                    ticket: number,
+                    ..Record::idle()
+                }],
+            };
             assert_eq!(read_back(&case), case);
         }
     }
@@ -73,7 +81,9 @@ fn missing_bytes_are_0() {
 fn bounds_of_the_format() {
     let numbers = [0, 0, 0, 252, 1, 0, 0, 0, 9, 252, 2, 0, 0, 0, 8, 0, 0, 0];
     let case = Case::read(&[&numbers[..], &[249, 255, 255, 255, 7]].concat());
-    assert_eq!((case.floor.last_ticket, case.floor.version), (9, 8));
+    // a ticket is whole, and of a version the lowest four bytes are taken
+    let last = 0x1_0000_0009;
+    assert_eq!((case.floor.last_ticket, case.floor.version), (last, 8));
     assert_eq!(case.board.len(), 2_064);
     assert_eq!(case.board[..257], [vec![7; 256], vec![0]].concat());
     // call, floor, numbers, board: the list
@@ -94,6 +104,7 @@ fn bounds_of_the_format() {
             ..Record::idle()
         }]
     );
+    tickets_of_the_format();
     // call, floor, numbers, board, list: the index, the second board, and the turns behind it
     let mut body = vec![0; 10];
     body.extend([14, 1, 7, 255, 9, 3, 1, 4, 255, 5, 3, 0, 2]);
@@ -116,6 +127,23 @@ fn bounds_of_the_format() {
     assert_eq!((turns[1], turns[2], turns[65_537]), (1, 3, 4));
     body.truncate(17);
     assert_eq!(Case::read(&body).turns.len(), 2 + 0xff00);
+}
+
+/// A ticket has all 64 bits wherever it stands; the version that an opening asks for is the low half of the same number.
+fn tickets_of_the_format() {
+    let ticket = [255, 1, 2, 3, 4, 5, 6, 7, 8];
+    let floor = [&[0, 1, 1][..], &ticket, &[0]].concat();
+    let numbers = [&[1, 1][..], &ticket].concat();
+    let record = [&[1, 0, 2, 1, 7][..], &ticket, &[0, 0, 3, 0, 0]].concat();
+    let index = [5, 4, 0];
+    let case = Case::read(&[&floor[..], &numbers, &[8, 7, 0], &record, &index].concat());
+    let whole = 0x102_0304_0506_0708;
+    assert_eq!((case.floor.last_ticket, case.ticket), (whole, whole));
+    assert_eq!(case.list.records[0].ticket, whole);
+    assert_eq!(
+        line_of(&case),
+        "open 0 | 1 1 0 5060708 | 5060708 0*7 | 0.0.0.0.0.0.3.0.0 | 0*5\n"
+    );
 }
 
 #[test]
@@ -151,6 +179,20 @@ fn lines_of_the_format() {
     assert_eq!(
         line_of(&insert),
         "insert 0 | 2 1 1 0 | 0*8 | 2.1.7.1.0.0.3.0.0 0.0.0.0.0.0.3.0.0 | 0*5\n"
+    );
+    let floor = Floor {
+        last_ticket: 1 << 32,
+        ..insert.floor
+    };
+    insert = Case { floor, ..insert };
+    assert_eq!(
+        line_of(&insert),
+        "insert 5 | 2 1 100000000 0 | 0*8 | 0.0.0.0.0.0.3.0.0*2 | 0*5\n"
+    );
+    insert.ticket = u64::MAX;
+    assert_eq!(
+        line_of(&insert),
+        "insert 0 | 2 1 ffffffffffffffff 0 | 0*8 | 2.1.7.ffffffffffffffff.0.0.3.0.0 0.0.0.0.0.0.3.0.0 | 0*5\n"
     );
     let mut turn = opened(4, 1);
     turn.floor.last_ticket = 1;
@@ -291,7 +333,7 @@ fn lines_with_an_index() {
 #[test]
 fn lines_with_a_version() {
     let mut open = opened(0, 1);
-    (open.worker, open.lot, open.ticket) = (1, 1, u32::MAX);
+    (open.worker, open.lot, open.ticket) = (1, 1, u32::MAX.into());
     open.floor.version = 9;
     assert_eq!(
         line_of(&open),
@@ -410,8 +452,8 @@ fn the_stored_cases_meet_every_point() {
     assert_eq!(stored.coverage.unmet(), Vec::<String>::new());
     assert_eq!(lines(&stored.stream), stored.lines);
     assert!(stored.lines.lines().count() >= 5_000);
-    // two mebibytes and three eighths
-    assert!(stored.stream.len() + stored.lines.len() < 19 << 17);
+    // two mebibytes and a half
+    assert!(stored.stream.len() + stored.lines.len() < 5 << 19);
 }
 
 #[test]

@@ -112,7 +112,7 @@ fn where_each_bit_is() {
         let mut desk = Desk::opened(1, 256, 5, manner).unwrap();
         let mut index = [0; 5];
         for (lots, bucket) in (1..).zip(WORD_ENDS) {
-            desk.start(INSERT, 0, bucket, lots as u32).unwrap();
+            desk.start(INSERT, 0, bucket, lots).unwrap();
             assert_eq!(desk.run(&[0; 10], &mut |_, _, _| ()).0, 0);
             assert_eq!(desk.index.0, index);
             assert_eq!(desk.turn(0).unwrap().ended, Some(1));

@@ -215,7 +215,7 @@ impl History {
         let report = self.desk.turn(worker).unwrap();
         match (record.place, report.action) {
             (9, Action::Won) => {
-                let before = self.clerk.insert(record.key, record.ticket.into());
+                let before = self.clerk.insert(record.key, record.ticket);
                 assert_eq!(before, None);
             }
             (13, Action::Won) => assert_eq!(self.clerk.remove(&record.key), report.ended),

@@ -162,7 +162,7 @@ fn p8_two_inserts_of_one_lot() {
 fn p9_a_full_bucket() {
     on_both(1, 0, |mut desk| {
         for (lot, turns) in [(7, 11), (8, 12), (9, 13)] {
-            desk.start(INSERT, 0, lot, lot as u32).unwrap();
+            desk.start(INSERT, 0, lot, lot).unwrap();
             end(&mut desk, 0, turns, 1);
         }
         desk.start(INSERT, 0, 10, 10).unwrap();
@@ -230,7 +230,7 @@ fn a_lot_half_written_is_not_counted() {
     for manner in [Manner::Living, Manner::Remade] {
         let mut desk = Desk::opened(1, 2, 0, manner).unwrap();
         for (lot, turns) in [(2, 11), (3, 11), (4, 12)] {
-            desk.start(INSERT, 0, lot, lot as u32).unwrap();
+            desk.start(INSERT, 0, lot, lot).unwrap();
             end(&mut desk, 0, turns, 1);
         }
         desk.start(INSERT, 0, 5, 5).unwrap();

@@ -76,10 +76,13 @@ fn broken_kinds(random: &mut Random, records: &mut Vec<Record>) {
 }
 
 fn broken_idle(records: &mut Vec<Record>) {
-    let fills: [fn(&mut Record); 16] = [
+    let fills: [fn(&mut Record); 19] = [
         |record| record.place = 1,
         |record| record.key = 7,
         |record| record.ticket = 1,
+        |record| record.ticket = 4_294_967_295,
+        |record| record.ticket = 1 << 32,
+        |record| record.ticket = u64::MAX,
         |record| record.slot = 1,
         |record| record.word = 1,
         |record| record.seen = 1,
@@ -118,16 +121,16 @@ fn broken_places(random: &mut Random, records: &mut Vec<Record>) {
 }
 
 fn broken_tickets(random: &mut Random, records: &mut Vec<Record>) {
-    for (kind, ticket) in [
-        (INSERT, 0),
-        (LOOK, 1),
-        (LOOK, u32::MAX),
-        (REMOVE, 1),
-        (REMOVE, u32::MAX),
-    ] {
-        let mut record = sound(random, kind);
-        record.ticket = ticket;
-        records.push(record);
+    let mut insert = sound(random, INSERT);
+    insert.ticket = 0;
+    records.push(insert);
+    for kind in [LOOK, REMOVE] {
+        // the third has nothing in its low half
+        for ticket in [1, 4_294_967_295, 1 << 32, u64::MAX] {
+            let mut record = sound(random, kind);
+            record.ticket = ticket;
+            records.push(record);
+        }
     }
 }
 

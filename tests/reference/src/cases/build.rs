@@ -25,6 +25,18 @@ pub const EDGES: [u64; 12] = [
     u64::MAX,
 ];
 
+/// Tickets at the ends of their low half and of the whole (§3.5), and about the highest bit.
+pub const LONG_ENDS: [u64; 8] = [
+    4_294_967_294,
+    4_294_967_295,
+    4_294_967_296,
+    4_294_967_297,
+    (1 << 63) - 1,
+    1 << 63,
+    u64::MAX - 1,
+    u64::MAX,
+];
+
 /// The places of each kind.
 pub fn places(kind: u8) -> &'static [u8] {
     match kind {
@@ -123,11 +135,30 @@ impl Random {
         Record { held, ..record }
     }
 
-    pub fn ticket(&mut self) -> u32 {
-        if self.once_in(16) {
-            return u32::MAX;
+    /// A ticket of an insert: mostly a small one, so that tickets meet values.
+    pub fn ticket(&mut self) -> u64 {
+        match self.once_in(12) {
+            true => self.pick(&LONG_ENDS),
+            false => 1 + self.below(8),
         }
-        1 + self.below(8) as u32
+    }
+
+    /// A floor's last ticket, above which there are some.
+    pub fn last_ticket(&mut self) -> u64 {
+        match self.once_in(12) {
+            true => self.pick(&LONG_ENDS[..6]),
+            false => self.below(9),
+        }
+    }
+
+    /// A ticket above the last one, if there is any: mostly the next, seldom one far up.
+    pub fn next_ticket(&mut self, last: u64) -> u64 {
+        match self.below(40) {
+            0 => last.saturating_add(1 << 32),
+            1 => last.max(4_294_967_294).saturating_add(1),
+            2 => last.saturating_add(1 << 62),
+            _ => last.saturating_add(1),
+        }
     }
 
     /// Mostly 1, so that cases are short.
@@ -168,7 +199,7 @@ impl Random {
             floor: Floor {
                 workers: w,
                 buckets: n,
-                last_ticket: self.below(9) as u32,
+                last_ticket: self.last_ticket(),
                 version: self.version(),
             },
             worker,
@@ -191,13 +222,13 @@ impl Random {
         match case.call {
             case::OPEN => {
                 (case.worker, case.lot) = (case.floor.workers, case.floor.buckets);
-                case.ticket = self.version();
+                case.ticket = self.version().into();
                 case.floor.workers = self.value();
                 case.floor.buckets = self.value();
             }
             case::LOOK | case::INSERT | case::REMOVE => {
                 case.list.records[worker] = Record::idle();
-                case.ticket = case.floor.last_ticket + 1 + self.below(3) as u32;
+                case.ticket = case.floor.last_ticket + 1 + self.below(3);
             }
             case::TURN | case::RUN | case::RETIRE => {
                 case.list.records[worker] = self.any_record();

@@ -68,7 +68,7 @@ fn opening(random: &mut Random) -> Case {
         },
         worker: w,
         lot: n,
-        ticket: version,
+        ticket: version.into(),
         board: vec![0; 8 * n as usize],
         list: List {
             length: w,
@@ -88,7 +88,7 @@ fn next_call(random: &mut Random, case: &mut Case, lots: &[u64]) {
     case.second.clear();
     case.worker = random.below(w);
     case.lot = random.pick(lots);
-    case.ticket = case.floor.last_ticket.saturating_add(1);
+    case.ticket = random.next_ticket(case.floor.last_ticket);
     let record = case.list.records[case.worker as usize];
     let idle = record.is_idle();
     let all_idle = case.list.records.iter().all(Record::is_idle);
@@ -143,9 +143,9 @@ fn spoilt(random: &mut Random) -> Case {
     match random.below(9) {
         0 => spoil_sizes(random, &mut case),
         1 => case.worker = edge,
-        2 => case.ticket = edge as u32,
+        2 => case.ticket = edge,
         3 => match random.once_in(2) {
-            true => case.floor.last_ticket = edge as u32,
+            true => case.floor.last_ticket = edge,
             false => case.floor.version = edge as u32,
         },
         4 | 5 => {
@@ -206,7 +206,7 @@ fn spoil_record(random: &mut Random, record: &mut Record) {
         0 => record.kind = random.pick(&[0, 1, 2, 3, 4, 255]),
         1 => record.place = random.below(16) as u8,
         2 => record.key = edge,
-        3 => record.ticket = edge as u32,
+        3 => record.ticket = edge,
         4 => record.slot = random.below(5) as u8,
         5 => {
             let mut word = [record.word];

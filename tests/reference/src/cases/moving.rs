@@ -4,7 +4,7 @@
 mod after;
 
 use super::broken::BUCKETS;
-use super::build::{count_index, mark_word, places, set_list, set_workers, settle, EDGES};
+use super::build::{count_index, mark_word, places, set_list, set_workers, settle, LONG_ENDS};
 use super::index::WORD_ENDS;
 use super::refusals::broken_record;
 use super::Bodies;
@@ -56,7 +56,7 @@ fn moving_of(bodies: &mut Bodies, w: u64, n: u64, lots: &[Standing], to: u64) ->
         let words = &mut case.board[BUCKET_WORDS * bucket as usize..][..BUCKET_WORDS];
         words[0] = snap_set_map(words[0], slot, MAP_VALID);
         words[1 + usize::from(slot)] = lot;
-        words[4 + usize::from(slot)] = random.ticket().into();
+        words[4 + usize::from(slot)] = random.ticket();
     }
     random.go_to(&mut case, to);
     count_index(&mut case);
@@ -495,14 +495,14 @@ fn numbers(bodies: &mut Bodies) {
     let mut case = moving(bodies, 1, &[(0, 1, 255)], 256);
     case.floor.version = u32::MAX;
     bodies.push(case);
-    for last in [0, 1, 7, u32::MAX - 1, u32::MAX] {
+    for last in [0, 1, 7].into_iter().chain(LONG_ENDS) {
         for to in [1, 2] {
             let mut case = moving(bodies, 1, &[(0, 1, 7)], to);
             case.floor.last_ticket = last;
             bodies.push(case);
         }
     }
-    for ticket in EDGES {
+    for ticket in [0, 1].into_iter().chain(LONG_ENDS) {
         let mut case = moving(bodies, 1, &[(0, 1, 7), (0, 2, 4)], 2);
         case.board[5] = ticket;
         bodies.push(case);

@@ -140,7 +140,7 @@ fn class(bodies: &mut Bodies, w: u64, events: &[Event]) -> Case {
         (0..turns).take_while(|_| desk.turn(worker).is_ok()).count();
     }
     if random.once_in(8) {
-        desk.floor.last_ticket = random.pick(&[0, u32::MAX]);
+        desk.floor.last_ticket = random.pick(&[0, 4_294_967_295, 1 << 32, u64::MAX]);
     }
     Case {
         call: ORDERS,

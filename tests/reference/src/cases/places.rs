@@ -238,11 +238,6 @@ fn stores(bodies: &mut Bodies) {
             push(bodies, Record { held, ..record }, words);
         }
     }
-    for ticket in [1, u32::MAX] {
-        let record = bodies.random.record(INSERT, 7);
-        let words = bodies.random.bucket();
-        push(bodies, Record { ticket, ..record }, words);
-    }
     for key in [0, u64::MAX] {
         let record = bodies.random.record(INSERT, 8);
         let words = bodies.random.bucket();

@@ -18,7 +18,6 @@ pub fn make(bodies: &mut Bodies) {
     lots(bodies);
     any_lots(bodies);
     versions(bodies);
-    tickets(bodies);
     lengths(bodies);
     counts(bodies);
     runs(bodies);
@@ -98,31 +97,8 @@ fn versions(bodies: &mut Bodies) {
     for version in [0, 1, u32::MAX] {
         for (n, before) in [(1, 0), (2, 0), (1, u32::MAX)] {
             let mut case = bodies.random.sound_sized(OPEN, 2, n);
-            case.ticket = version;
+            case.ticket = version.into();
             case.floor.version = before;
-            bodies.push(case);
-        }
-    }
-}
-
-fn tickets(bodies: &mut Bodies) {
-    for last in [0, 1, 2, 7, u32::MAX - 1, u32::MAX] {
-        for ticket in [
-            0,
-            1,
-            last.wrapping_sub(1),
-            last,
-            last.wrapping_add(1),
-            u32::MAX,
-        ] {
-            let mut case = bodies.random.sound(INSERT);
-            case.floor.last_ticket = last;
-            case.ticket = ticket;
-            bodies.push(case);
-        }
-        for call in [LOOK, REMOVE] {
-            let mut case = bodies.random.sound(call);
-            case.floor.last_ticket = last;
             bodies.push(case);
         }
     }

@@ -120,7 +120,7 @@ fn starts(bodies: &mut Bodies, call: u8) {
                     _ => (),
                 }
                 if spent {
-                    case.floor.last_ticket = case.ticket + random.below(2) as u32;
+                    case.floor.last_ticket = case.ticket + random.below(2);
                 }
                 if spoilt {
                     spoil_size(&mut case);

@@ -1,6 +1,7 @@
 //! What alone made a record or a bucket broken, and what was broken and did not matter.
 
 use super::refusals::{is_broken_at, record_of, sizes, worker_of};
+use super::shown;
 use crate::case::{self, Case, NAMES};
 use crate::memory::{Board, BUCKET_WORDS};
 use crate::outcome::Outcome;
@@ -57,7 +58,6 @@ fn causes_in_idle(record: &Record) -> Vec<String> {
     let filled = [
         (record.place != 0, "a place"),
         (record.key != 0, "a key"),
-        (record.ticket != 0, "a ticket"),
         (record.slot != 0, "a slot"),
         (record.word != 0, "a word"),
         (record.seen != 0, "a seen"),
@@ -67,6 +67,9 @@ fn causes_in_idle(record: &Record) -> Vec<String> {
         .filter(|(is_filled, _)| *is_filled)
         .map(|(_, field)| format!("idle with {field}"))
         .collect();
+    if record.ticket != 0 {
+        causes.push(format!("idle with ticket {}", shown(record.ticket)));
+    }
     if record.held != NONE {
         causes.push(format!("idle with held {}", record.held));
     }
@@ -95,7 +98,7 @@ fn causes_in_busy(record: &Record) -> Vec<String> {
         causes.push(format!("{kind} at {place}"));
     }
     if (ticket == 0) == (record.kind == INSERT) {
-        causes.push(format!("{kind} with ticket {ticket}"));
+        causes.push(format!("{kind} with ticket {}", shown(ticket)));
     }
     let helds: &[u8] = match (record.kind, place) {
         (INSERT, 1..=5) => &[0, 1, 2, 3],

@@ -2,6 +2,7 @@
 
 use super::broken::broken_buckets;
 use super::index::oddities;
+use super::shown;
 use crate::case::{Case, NAMES};
 use crate::outcome::{Answer, Outcome};
 
@@ -17,13 +18,6 @@ pub fn see(case: &Case, outcome: &Outcome, met: &mut Vec<String>) {
     }
     if !broken_buckets(case).is_empty() {
         met.push(format!("{name}: 0 over a broken bucket"));
-    }
-}
-
-fn shown(number: u64) -> String {
-    match number {
-        u64::MAX => "2^64-1".into(),
-        number => number.to_string(),
     }
 }
 

@@ -3,6 +3,7 @@
 
 use super::broken::causes_in_bucket;
 use super::refusals::{applying, causes_of_1};
+use super::shown;
 use crate::case::{self, Case, INSERT, MOVE, NAMES};
 use crate::desk::MOST_BUCKETS;
 use crate::memory::BUCKET_WORDS;
@@ -373,10 +374,10 @@ fn see_lots(case: &Case, outcome: &Outcome, met: &mut Vec<String>) {
         }
     }
     for lot in &old {
-        let shown = shown(lot.lot);
-        met.push(format!("move: lot {shown} goes"));
-        met.push(format!("move: lot {shown} to {to} buckets"));
-        met.push(format!("move: ticket {} goes", self::shown(lot.ticket)));
+        let number = shown(lot.lot);
+        met.push(format!("move: lot {number} goes"));
+        met.push(format!("move: lot {number} to {to} buckets"));
+        met.push(format!("move: ticket {} goes", shown(lot.ticket)));
         if lot.lot % n != lot.bucket as u64 {
             met.push("move: a lot of another's bucket goes".into());
         }
@@ -393,7 +394,7 @@ fn see_lots(case: &Case, outcome: &Outcome, met: &mut Vec<String>) {
         if tickets.count() > 1 {
             met.push("move: equal tickets go".into());
         }
-        let last = u64::from(case.floor.last_ticket);
+        let last = case.floor.last_ticket;
         met.push(match last < lot.ticket {
             true => "move: 0 with last ticket below a ticket that goes".into(),
             false => "move: 0 with last ticket above a ticket that goes".into(),
@@ -424,13 +425,6 @@ fn see_order(lots: &[Lot], met: &mut Vec<String>) {
     met.push(format!("move: three lots of {from}, by size {order}"));
 }
 
-fn shown(number: u64) -> String {
-    match number {
-        u64::MAX => "2^64-1".into(),
-        number => number.to_string(),
-    }
-}
-
 fn see_numbers(case: &Case, met: &mut Vec<String>) {
     let (version, to) = (case.floor.version, case.worker);
     let with = match lots(&case.board).is_empty() {
@@ -445,7 +439,7 @@ fn see_numbers(case: &Case, met: &mut Vec<String>) {
             false => "move: 0 at another version than an old bucket's".into(),
         });
     }
-    let last = case.floor.last_ticket;
+    let last = shown(case.floor.last_ticket);
     met.push(format!("move: 0 with last ticket {last}"));
 }
 
@@ -478,7 +472,7 @@ fn see_what_was_there(case: &Case, outcome: &Outcome, met: &mut Vec<String>) {
 
 /// Whether the board is as a move leaves it, with a lot on it: every bucket at the floor's version, lots in their own buckets and in the
 /// first slots there, zeros elsewhere. Without a move no opened board with a lot on it is so, since its insert has raised a version.
-fn is_just_moved(case: &Case) -> bool {
+pub fn is_just_moved(case: &Case) -> bool {
     let n = case.floor.buckets;
     let is_laid_out = |(number, bucket): (usize, &[u64])| {
         let valid = marks(bucket)
@@ -583,7 +577,7 @@ fn see_floor(case: &Case, outcome: &Outcome, met: &mut Vec<String>) {
     let version = case.floor.version;
     match (case.call, outcome.answer.number()) {
         (case::OPEN, 0) => {
-            let asked = case.ticket;
+            let asked = case.version();
             met.push(format!(
                 "open: 0 with version {asked} over {version} on the floor"
             ));

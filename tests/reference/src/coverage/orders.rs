@@ -2,6 +2,7 @@
 
 use super::refusals::applying;
 use super::reports::came;
+use super::shown;
 use crate::case::{Case, NAMES, ORDERS};
 use crate::desk::{MOST_DEPTH, SMALL_BUCKETS, SMALL_WORKERS};
 use crate::orders::{Tally, Walks};
@@ -120,7 +121,7 @@ fn share(count: usize, case: &Case) -> &'static str {
 fn see_class(case: &Case, met: &mut Vec<String>) {
     let (w, depth) = (case.floor.workers, case.worker);
     met.push(format!("orders: 0 with W {w} and depth {depth}"));
-    let last = case.floor.last_ticket;
+    let last = shown(case.floor.last_ticket);
     met.push(format!("orders: 0 with last ticket {last}"));
     let busy = busy_workers(case);
     let numbers: Vec<String> = busy.iter().map(|(worker, _)| worker.to_string()).collect();

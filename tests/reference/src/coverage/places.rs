@@ -1,6 +1,7 @@
 //! Which places were met in turns, with which outcome. Seen from the record and the bucket before and the record after.
 
 use super::refusals::record_of;
+use super::shown;
 use crate::case::{self, Case, NAMES};
 use crate::memory::BUCKET_WORDS;
 use crate::outcome::{Answer, Outcome};
@@ -49,7 +50,10 @@ fn see_sound(turn: &Turn, met: &mut Vec<String>) {
         _ => met.push(format!("turn: sound {kind} at {place}")),
     }
     met.push(format!("turn: sound {kind} slot {}", before.slot));
-    met.push(format!("turn: sound {kind} ticket {}", before.ticket));
+    met.push(format!(
+        "turn: sound {kind} ticket {}",
+        shown(before.ticket)
+    ));
     met.push(format!("turn: sound {kind} asleep {}", before.asleep));
     met.push(format!(
         "turn: sound {kind} version {} in its word",
@@ -119,10 +123,6 @@ fn second_reading(seen: u64, value: u64) -> &'static str {
 fn see_reads(turn: &Turn, met: &mut Vec<String>) {
     let Turn { before, words, .. } = turn;
     let at = usize::from(before.slot);
-    let shown = |number: u64| match number {
-        u64::MAX => "2^64-1".to_string(),
-        number => number.to_string(),
-    };
     match before.place {
         4 | 11 if words[1 + at] == before.key => met.push(format!(
             "at {} equal with key {}",
@@ -135,7 +135,7 @@ fn see_reads(turn: &Turn, met: &mut Vec<String>) {
             shown(words[4 + at])
         )),
         5 if words[4 + at] == before.seen => met.push(format!("at 5 finds {}", shown(before.seen))),
-        7 => met.push(format!("at 7 stores {}", before.ticket)),
+        7 => met.push(format!("at 7 stores {}", shown(before.ticket))),
         8 => met.push(format!("at 8 stores {}", shown(before.key))),
         _ => (),
     }

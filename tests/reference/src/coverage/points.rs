@@ -2,6 +2,7 @@
 
 mod index;
 mod moving;
+mod tickets;
 
 const POINTS: &[&str] = &[
     // every number of every call
@@ -46,14 +47,15 @@ const POINTS: &[&str] = &[
     "open: 0 over a {broken,busy} record of worker {0,63}",
     // the causes of a broken record, each alone
     "{start,turn,run,orders,retire,turn beside,move}: broken record, kind {4,255}",
-    "{start,turn,run,orders,retire,turn beside,move}: broken record, idle with {a place,a key,a ticket,a slot,a word,a seen}",
+    "{start,turn,run,orders,retire,turn beside,move}: broken record, idle with {a place,a key,a slot,a word,a seen}",
+    "{start,turn,run,orders,retire,turn beside,move}: broken record, idle with ticket {1,4294967295,4294967296,2^64-1}",
     "{start,turn,run,orders,retire,turn beside,move}: broken record, idle with held {0,1,2,4,255}",
     "{start,turn,run,orders,retire,turn beside,move}: broken record, idle with asleep {1,256,65536,4294967294,4294967295}",
     "{start,turn,run,orders,retire,turn beside,move}: broken record, look at {0,1,6,255}",
     "{start,turn,run,orders,retire,turn beside,move}: broken record, insert at {0,11,255}",
     "{start,turn,run,orders,retire,turn beside,move}: broken record, remove at {0,2,10,14,255}",
     "{start,turn,run,orders,retire,turn beside,move}: broken record, insert with ticket 0",
-    "{start,turn,run,orders,retire,turn beside,move}: broken record, {look,remove} with ticket {1,4294967295}",
+    "{start,turn,run,orders,retire,turn beside,move}: broken record, {look,remove} with ticket {1,4294967295,4294967296,2^64-1}",
     "{start,turn,run,orders,retire,turn beside,move}: broken record, {look,remove} with held {0,1,2,4,255}",
     "{start,turn,run,orders,retire,turn beside,move}: broken record, insert at {1,2,3,4,5} with held {4,255}",
     "{start,turn,run,orders,retire,turn beside,move}: broken record, insert at 6 with held {0,1,2,4,255}",
@@ -71,7 +73,7 @@ const POINTS: &[&str] = &[
     "turn: sound {look,insert,remove} slot {0,1,2}",
     "turn: sound {insert,remove} mark {0,1,2} at {0,1,2} in its word",
     "turn: sound {insert,remove} version {0,4294967295} in its word",
-    "turn: sound insert ticket {1,4294967295}",
+    "turn: sound insert ticket {1,4294967295,4294967296,4294967297,2^63,2^64-2,2^64-1}",
     "turn: sound {look,insert,remove} asleep {0,1,4294967294,4294967295}",
     "{look,insert,remove,turn,run,retire}: 0 with a broken record elsewhere",
     // the causes of a broken bucket, each alone
@@ -121,12 +123,8 @@ const POINTS: &[&str] = &[
     "at {4,11} equal with key {0,2^64-1}",
     "at {2,12} reads {0,2^64-1}",
     "at 5 finds 2^64-1",
-    "at 7 stores {1,4294967295}",
     "at 8 stores {0,2^64-1}",
     "open: 0 with version {0,4294967295}",
-    "insert: 5 with ticket {0 after 0,1 after 1,0 after 4294967295,4294967295 after itself,one less than the last}",
-    "insert: 0 with ticket {1 after 0,one more than the last,4294967295,4294967295 after 4294967294}",
-    "{look,remove}: 0 after 4294967295",
     "run: 0 of {0,1,65535} turns",
     "run: turn 65535 stops it",
     "run: 9 of {65536,65540} turns",
@@ -209,7 +207,7 @@ const POINTS: &[&str] = &[
     "orders on {0,1,2,3} taken slots",
     "orders, {2,3} busy on {1,2} lots",
     "orders, 3 busy on 3 lots",
-    "orders: 0 with last ticket {0,4294967295}",
+    "orders: 0 with last ticket {0,4294967295,4294967296,2^64-1}",
     // what came of their walks
     "orders, 1 busy: {finished,cut}",
     "orders, {2,3} busy: {finished,cut,finished and cut}",
@@ -247,8 +245,8 @@ const POINTS: &[&str] = &[
     "retire: remove at {1,11,12,13}",
     "retire: {look,remove} at slot {0,1,2}",
     "retire: insert at slot {0,1,2} held {0,1,2,3}",
-    "retire: insert ticket {1,4294967295}",
-    "retire: 0 with last ticket {0,4294967295}",
+    "retire: insert ticket {1,4294967295,4294967296,2^64-1}",
+    "retire: 0 with last ticket {0,4294967295,4294967296,2^64-1}",
     "retire: the last ticket is its own",
     // with a held slot: over which mark word, in which bucket
     "retire: held {0,1,2} mark {0,1,2}, other marks {00,01,02,10,11,12,20,21,22}",
@@ -338,8 +336,9 @@ const POINTS: &[&str] = &[
 
 /// Every point by its name.
 pub fn points() -> Vec<String> {
-    let patterns = POINTS.iter().chain(index::POINTS).chain(moving::POINTS);
-    patterns.flat_map(|pattern| expand(pattern)).collect()
+    let patterns = [POINTS, index::POINTS, moving::POINTS, tickets::POINTS].concat();
+    let points = patterns.iter().flat_map(|pattern| expand(pattern));
+    points.collect()
 }
 
 /// All that a pattern stands for.

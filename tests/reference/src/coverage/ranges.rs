@@ -1,6 +1,7 @@
 //! Both ends of every range, the runs as a whole, and the trials.
 
 use super::refusals::{length_of_list, sizes, worker_of};
+use super::shown;
 use crate::case::{self, Case, NAMES};
 use crate::desk::MOST_TURNS;
 use crate::memory::BUCKET_WORDS;
@@ -21,7 +22,6 @@ pub fn see(case: &Case, outcome: &Outcome, met: &mut Vec<String>) {
     match number {
         0 => see_accepted(case, outcome, met),
         2 => see_worker(case, met),
-        5 => see_spent_ticket(case, met),
         3 | 4 | 6 | 7 | 11 => see_last_worker(case, outcome, met),
         9 => met.push(format!("run: 9 of {} turns", case.turns.len())),
         _ => (),
@@ -44,11 +44,7 @@ fn see_accepted(case: &Case, outcome: &Outcome, met: &mut Vec<String>) {
         }
     }
     match case.call {
-        case::OPEN => met.push(format!("open: 0 with version {}", case.ticket)),
-        case::INSERT => see_ticket(case, met),
-        case::LOOK | case::REMOVE => {
-            met.push(format!("{name}: 0 after {}", case.floor.last_ticket))
-        }
+        case::OPEN => met.push(format!("open: 0 with version {}", case.version())),
         case::SHOW | case::COUNT | case::TOTAL | case::NEXT => see_list(case, name, met),
         _ => (),
     }
@@ -92,14 +88,11 @@ fn see_worker(case: &Case, met: &mut Vec<String>) {
         return;
     }
     let name = NAMES[case.call as usize];
-    let shown = match case.worker {
-        u64::MAX => "2^64-1".to_string(),
-        worker => worker.to_string(),
-    };
-    met.push(format!("{name}: 2 with worker {shown}"));
+    let worker = shown(case.worker);
+    met.push(format!("{name}: 2 with worker {worker}"));
     if case.worker == case.floor.workers {
         met.push(format!("{name}: 2 with worker W"));
-        met.push(format!("{name}: 2 with worker {shown} of {shown}"));
+        met.push(format!("{name}: 2 with worker {worker} of {worker}"));
     }
 }
 
@@ -109,28 +102,6 @@ fn see_last_worker(case: &Case, outcome: &Outcome, met: &mut Vec<String>) {
         let name = NAMES[case.call as usize];
         let number = outcome.answer.number();
         met.push(format!("{name}: {number} for worker 63"));
-    }
-}
-
-fn see_ticket(case: &Case, met: &mut Vec<String>) {
-    let (ticket, last) = (case.ticket, case.floor.last_ticket);
-    met.push(format!("insert: 0 with ticket {ticket} after {last}"));
-    if ticket == u32::MAX {
-        met.push("insert: 0 with ticket 4294967295".into());
-    }
-    if ticket == last + 1 {
-        met.push("insert: 0 with ticket one more than the last".into());
-    }
-}
-
-fn see_spent_ticket(case: &Case, met: &mut Vec<String>) {
-    let (ticket, last) = (case.ticket, case.floor.last_ticket);
-    met.push(format!("insert: 5 with ticket {ticket} after {last}"));
-    if ticket == u32::MAX {
-        met.push("insert: 5 with ticket 4294967295 after itself".into());
-    }
-    if ticket.checked_add(1) == Some(last) {
-        met.push("insert: 5 with ticket one less than the last".into());
     }
 }
 

@@ -2,6 +2,7 @@
 
 use super::broken::causes_in_bucket;
 use super::refusals::{is_broken_at, record_of};
+use super::shown;
 use crate::case::{Case, NAMES, RETIRE};
 use crate::memory::BUCKET_WORDS;
 use crate::outcome::Outcome;
@@ -64,9 +65,9 @@ fn see_record(case: &Case, record: &Record, met: &mut Vec<String>) {
         INSERT => met.push(format!("retire: insert at slot {slot} held {held}")),
         _ => met.push(format!("retire: {kind} at slot {slot}")),
     }
-    met.push(format!("retire: {kind} ticket {}", record.ticket));
+    met.push(format!("retire: {kind} ticket {}", shown(record.ticket)));
     let last = case.floor.last_ticket;
-    met.push(format!("retire: 0 with last ticket {last}"));
+    met.push(format!("retire: 0 with last ticket {}", shown(last)));
     if record.ticket == last && record.kind == INSERT {
         met.push("retire: the last ticket is its own".into());
     }

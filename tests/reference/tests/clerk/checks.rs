@@ -182,7 +182,7 @@ impl Watch {
     }
 
     /// The clerk hears nothing of a start, refused or not, so the board must be as it was.
-    fn start(&mut self, kind: u8, worker: u64, lot: u64, ticket: u32) -> Result<(), Failure> {
+    fn start(&mut self, kind: u8, worker: u64, lot: u64, ticket: u64) -> Result<(), Failure> {
         if let Err(refusal) = self.room.desk.start(kind, worker, lot, ticket) {
             self.met.insert(Point::Refused(refusal));
         }
@@ -231,7 +231,7 @@ impl Watch {
         let call = *self.running[worker].get_or_insert(Call {
             kind: record.kind,
             lot: record.key,
-            ticket: record.ticket.into(),
+            ticket: record.ticket,
             first: now,
         });
         let won = report.action == Action::Won && matches!(record.place, 9 | 13);

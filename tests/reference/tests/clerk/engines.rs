@@ -253,7 +253,7 @@ impl Step<'_> {
         if key {
             self.bucket.set_key(held, self.record.key);
         } else {
-            self.bucket.set_val(held, self.record.ticket.into());
+            self.bucket.set_val(held, self.record.ticket);
         }
         self.report.action = Action::Store;
     }

@@ -6,7 +6,7 @@ use reference::random::Random;
 #[derive(Clone, Copy, Debug, PartialEq, Eq)]
 pub enum Event {
     Look(u64, u64),
-    Insert(u64, u64, u32),
+    Insert(u64, u64, u64),
     Remove(u64, u64),
     Turns(u64, usize),
     Retire(u64),
@@ -34,6 +34,8 @@ pub fn any_schedule(seed: u64) -> Schedule {
     // some do little at a time, and sleep while others do whole calls
     let paces: Vec<u64> = (0..=workers).map(|_| random.pick(&[3, 8, 14])).collect();
     let retirings = random.pick(&[4, 16, 1_000]);
+    // tickets are small, or some of them need more than their low half, or the last of them is the highest
+    let below = random.pick(&[0, 4_294_967_220, u64::MAX - 149]);
     let mut events = Vec::new();
     for at in 0..150 {
         let worker = any_worker(&mut random, workers);
@@ -41,7 +43,7 @@ pub fn any_schedule(seed: u64) -> Schedule {
             let lot = lowest + random.below(lots);
             // tickets rise; one from further back is refused if a higher one was accepted since
             let ticket = if random.once_in(8) { at / 2 } else { at };
-            events.push(any_start(&mut random, worker, lot, ticket));
+            events.push(any_start(&mut random, worker, lot, below + ticket));
         }
         let turns = 1 + random.below(paces[worker as usize]) as usize;
         events.push(Event::Turns(worker, turns));
@@ -58,7 +60,7 @@ pub fn any_schedule(seed: u64) -> Schedule {
     }
 }
 
-fn any_start(random: &mut Random, worker: u64, lot: u64, ticket: u32) -> Event {
+fn any_start(random: &mut Random, worker: u64, lot: u64, ticket: u64) -> Event {
     match random.below(3) {
         0 => Event::Look(worker, lot),
         1 => Event::Insert(worker, lot, ticket),

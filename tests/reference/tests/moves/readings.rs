@@ -549,13 +549,24 @@ pub const OTHERS: &[(&str, Reading)] = &[
         },
     ),
     (
+        "the last ticket has no high half",
+        Reading {
+            floor: |case| Floor {
+                buckets: case.worker,
+                last_ticket: case.floor.last_ticket & 0xffff_ffff,
+                ..case.floor
+            },
+            ..AS_LAID_DOWN
+        },
+    ),
+    (
         "the last ticket is one on the board",
         Reading {
             floor: |case| {
                 let values = case.board.chunks(8).flat_map(|words| &words[4..7]);
                 Floor {
                     buckets: case.worker,
-                    last_ticket: *values.max().unwrap() as u32,
+                    last_ticket: *values.max().unwrap(),
                     ..case.floor
                 }
             },

@@ -62,7 +62,7 @@ pub struct Walked {
 struct State {
     words: Vec<u64>,
     records: Vec<Record>,
-    last_ticket: u32,
+    last_ticket: u64,
     calls_left: u32,
     watch: Watch,
 }

@@ -146,7 +146,7 @@ impl Watch {
         let mut list = valid_slots(words).ok_or(Wrong::Clerk)?;
         let now = valid_slots(&desk.board.words()).ok_or(Wrong::Clerk)?;
         let clerks_answer = match (report.action, record.place) {
-            (Action::Won, 9) => match list.insert(record.key, record.ticket.into()) {
+            (Action::Won, 9) => match list.insert(record.key, record.ticket) {
                 None => Some(1),
                 Some(_) => return Err(Wrong::Clerk),
             },

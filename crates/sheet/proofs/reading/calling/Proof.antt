@@ -33,16 +33,17 @@ fits c = sym (c .before .call-fits .ensures) ∙ not-false _ (c .if3 .left)
 
 ticket-requires : tie.Need-ticket-requires
 ticket-requires c κs =
-    let t = c .before .before in
+    let t = c .before in
     (t .before .before .before .before .before .before .pre, fits t)
 
 returns-4 : tie.Need-returns-4
 unfolding callingAt
 returns-4 c =
-    let n = c .before in
-    let t = n .before .before in
+    let k = c .before in
+    let n = k .before in
+    let t = n .before in
     let a = t .before .before .before .before .before .before .args in
-    rw (ne-eqb (a .at) 0 (omega arith), fits t, n .number .ensures .0, c .ticket .ensures)
+    rw (ne-eqb (a .at) 0 (omega arith), fits t, n .number .ensures .0, k .ticket .ensures)
 
 pub calling-spec : {M : Type 1} → statement M
 unfolding callingAt
@@ -53,7 +54,7 @@ calling-spec =
     (λ c. search needs) (λ c. search needs)
     (λ c κs. search needs)
     returns-3
-    (λ c. search needs) (λ c. search needs) (λ c. search needs)
+    (λ c. search needs)
     (λ c κs. search needs)
     ticket-requires
-    (λ c. search needs) (λ c. search needs) returns-4)
+    (λ c. search needs) (λ c. search needs) (λ c. search needs) (λ c. search needs) returns-4)

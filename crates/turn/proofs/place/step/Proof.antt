@@ -11,9 +11,9 @@ use Rattle.turn.proofs.place.step.Tie as tie
 
 -- what the caller has shown, at the match
 ready :
-    (c : tie.After-struct-known5)
-    → Ready (c .before .before .before .before .before .before .args .bucket .now) (c .before .before .before .before .before .before .args .w)
-ready c = c .before .before .before .before .before .before .pre
+    (c : tie.After-struct-known4)
+    → Ready (c .before .before .before .before .before .args .bucket .now) (c .before .before .before .before .before .args .w)
+ready c = c .before .before .before .before .before .pre
 
 swap-requires : tie.Need-swap-requires
 swap-requires c κs = omega (arith, ready (c .before .before .before .before .before) .eight)
@@ -61,13 +61,13 @@ returns-7 c =
 returns-8 : tie.Need-returns-8
 returns-8 c =
     let m = c .before in
-    let a = m .before .before .before .before .before .before .before .args in
+    let a = m .before .before .before .before .before .before .args in
     at-row 7 (ready (m .before)) (m .match .keys8) (ap (leaves (set (a .bucket .now) (heldValue (a .w)) (a .w .ticket))) (c .stored .ensures))
 
 returns-9 : tie.Need-returns-9
 returns-9 c =
     let m = c .before in
-    let a = m .before .before .before .before .before .before .before .args in
+    let a = m .before .before .before .before .before .before .args in
     at-row 8 (ready (m .before)) (m .match .keys9) (ap (leaves (set (a .bucket .now) (heldKey (a .w)) (a .w .key))) (c .stored2 .ensures))
 
 returns-10 : tie.Need-returns-10
@@ -114,7 +114,7 @@ pub step-spec : {M : Type 1} → statement M
 step-spec =
     tie.close
     (tie.spec
-    (λ c. search needs) (λ c. search needs) (λ c. search needs) (λ c. search needs) (λ c. search needs)
+    (λ c. search needs) (λ c. search needs) (λ c. search needs) (λ c. search needs)
     (λ c. search needs) (λ c. search needs) (λ c. search needs) (λ c. search needs) (λ c κs. search needs)
     (λ c. search needs) (λ c κs. search needs) (λ c. search needs) (λ c. search needs) (λ c κs. search needs)
     (λ c. search needs) (λ c κs. search needs) (λ c. search needs) (λ c. search needs) (λ c κs. search needs)

@@ -18,24 +18,59 @@ pub fn make(bodies: &mut Bodies) {
         (1, 256, 0),
         (256, 1, 0),
     ] {
-        let mut case = sold(n, version);
+        let mut case = sold(n, version, 1);
         go_to(bodies, &mut case, to);
         goes_on(bodies, &case);
         // and back again
         go_to(bodies, &mut case, n);
         with_turns(bodies, &case, INSERT, 10);
     }
+    for first in [4_294_967_294, u64::MAX - 4, u64::MAX - 3] {
+        long_tickets(bodies, first);
+    }
 }
 
-/// Lots 7, 8, 9 and 10 were inserted on an opened board, and lot 8 is closed; nobody has anything to do.
-fn sold(n: u64, version: u32) -> Case {
+/// The same from tickets that need more than their low half; of the last of them the fourth is the highest there is (§3.5).
+fn long_tickets(bodies: &mut Bodies, first: u64) {
+    let mut case = sold(1, 7, first);
+    go_to(bodies, &mut case, 2);
+    let last = case.floor.last_ticket;
+    let near = [
+        last,
+        last - 1,
+        last.wrapping_add(1),
+        last & 0xffff_ffff,
+        0,
+        1,
+        1 << 32,
+    ];
+    for ticket in near {
+        bodies.push(Case {
+            call: INSERT,
+            worker: 1,
+            lot: 10,
+            ticket,
+            ..case.clone()
+        });
+    }
+    for (kind, lot) in [LOOK, REMOVE]
+        .into_iter()
+        .flat_map(|kind| [7, 9, 11].map(|lot| (kind, lot)))
+    {
+        with_turns(bodies, &case, kind, lot);
+    }
+    go_to(bodies, &mut case, 1);
+}
+
+/// Lots 7, 8, 9 and 11 were inserted on an opened board, from this ticket on, and lot 8 is closed; nobody has anything to do.
+fn sold(n: u64, version: u32, first: u64) -> Case {
     let mut desk = Desk::opened(2, n, version, Manner::Remade).expect("a floor of small sizes");
     for (kind, lot, ticket) in [
-        (INSERT, 7, 1),
-        (INSERT, 8, 2),
-        (INSERT, 9, 3),
+        (INSERT, 7, first),
+        (INSERT, 8, first + 1),
+        (INSERT, 9, first + 2),
         (REMOVE, 8, 0),
-        (INSERT, 11, 4),
+        (INSERT, 11, first + 3),
     ] {
         let started = desk.start(kind, 0, lot, ticket);
         started.expect("nothing refuses the start");
@@ -123,7 +158,7 @@ fn with_turns(bodies: &mut Bodies, case: &Case, kind: u8, lot: u64) {
         call: kind,
         worker: 0,
         lot,
-        ticket: case.floor.last_ticket + 1,
+        ticket: case.floor.last_ticket.saturating_add(1),
         ..case.clone()
     };
     bodies.push(case.clone());

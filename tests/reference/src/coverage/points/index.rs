@@ -71,6 +71,6 @@ pub const POINTS: &[&str] = &[
     "next: {some,none} from N-1 of {1,3,63,64,65,100,128,129,192,193,255,256}, some bits set",
     "next: some from N-1 of {1,3,64,65,256}, every bit set",
     "next: none from {N,N+1} of {1,3,64,65,255,256}, every bit set",
-    "next: none from {257,320,4294967295,4294967296,9223372036854775808,2^64-1}, every bit set",
+    "next: none from {257,320,4294967295,4294967296,2^63,2^64-1}, every bit set",
     "next: none, {no bit is set,bits before it alone are set,bits past N alone are set,bits before it and past N are set}",
 ];
