@@ -1,5 +1,7 @@
 // The mark word of a bucket: one 64-bit word that holds the version and the three slots' marks.
 // A slot is 0, 1 or 2. Any other number names no slot: its mark reads as 0, and setting it changes nothing.
+#![tactic(auto)]
+
 ghost use Rattle.std.specs.Prelude.{◌≡◌, ◌+◌, ◌*◌, ◌≤◌};
 ghost use Rattle.mark.specs.Word.{version, mark_of, set_mark, next_version, bump, first_empty, well_formed, is_mark, count_marks};
 

@@ -9,14 +9,14 @@ returns c =
     let b = c.before.before in
     let a = b.before.before in (
       simp (
-        a.one-if-valid.ensures.0,
-        a.before.mark_of_lem.ensures,
-        b.one-if-valid2.ensures.0,
-        b.before.mark-of2.ensures,
-        c.one-if-valid3.ensures.0,
-        c.before.mark-of3.ensures,
+        a.one_if_valid-first.ensures.0,
+        a.before.mark_of.ensures,
+        b.one_if_valid-second.ensures.0,
+        b.before.mark_of-2.ensures,
+        c.one_if_valid-third.ensures.0,
+        c.before.mark_of-3.ensures,
       ),
-      omega (arith, a.one-if-valid.ensures.1, b.one-if-valid2.ensures.1, c.one-if-valid3.ensures.1),
+      omega (arith, a.one_if_valid-first.ensures.1, b.one_if_valid-second.ensures.1, c.one_if_valid-third.ensures.1),
     )
 
 pub valid_slots_spec : {M : Type 1} → statement M

@@ -6,11 +6,11 @@ use Rattle.mark.proofs.Slots.{set_at}
 use Rattle.mark.proofs.with_mark.Statement.{statement}
 use Rattle.mark.proofs.with_mark.Tie as tie
 
-returns : tie.Need-returns-2
+returns : tie.Need-returns
 returns c =
     let s = c.before.before in
     let a = s.args in
-    rw (c.mark-shift.ensures, set_at a.word a.slot c.before.if1.false a.mark)
+    rw (c.mark_shift-shift.ensures, set_at a.word a.slot c.before.if-slot-ge-NO_SLOT.false a.mark)
     (field_set a.word (32 + 8 * a.slot) 8 s.ranges.word.fits (omega arith) a.mark s.ranges.mark.fits)
 
 pub with_mark_spec : {M : Type 1} → statement M

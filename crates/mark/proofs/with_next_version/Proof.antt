@@ -8,8 +8,8 @@ returns : tie.Need-returns
 unfolding version bump
 returns c =
     let w = c.before.before.args.word in
-    let n = c.next-version.result in
-    let e : n ≡ next_version (version w) = c.next-version.ensures ∙ ap next_version c.before.version_of.ensures in
+    let n = c.next_version.result in
+    let e : n ≡ next_version (version w) = c.next_version.ensures ∙ ap next_version c.before.version_of.ensures in
     let h : w / 2 ^ 32 * 2 ^ 32 % 2 ^ 64 ≡ w / 2 ^ 32 * 2 ^ 32 = omega arith in
     ap (λ (x : ℕ). bit_or x n) h ∙ or_shifted (w / 2 ^ 32) 32 n (omega arith) ∙ omega arith
 
