@@ -1,4 +1,6 @@
 // One bit of a 64-bit word. A number past 63 names no bit: it is never set, and setting it changes nothing.
+#![tactic(auto)]
+
 ghost use Rattle.std.specs.Prelude.{◌≡◌, cond};
 ghost use Rattle.bits.specs.Bits.{is_set, with_bit, first_from};
 

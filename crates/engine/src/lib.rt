@@ -16,7 +16,7 @@ mod moving; // the lots on a second board
 // §2.1: the number of workers W, the number of buckets N, the last ticket, and the version that the opening gave every bucket. The spare bytes fill
 // it: no byte of it is left to chance.
 #[repr(C)]
-#[derive(Drop)]
+#[derive(Clone, Copy)]
 pub struct Floor {
     pub workers: usize,
     pub buckets: usize,
@@ -27,7 +27,7 @@ pub struct Floor {
 
 // What an opening asks for.
 #[repr(C)]
-#[derive(Drop)]
+#[derive(Clone, Copy)]
 pub struct Plan {
     pub workers: usize,
     pub buckets: usize,
@@ -36,14 +36,14 @@ pub struct Plan {
 
 // What an insert brings: a ticket for a lot.
 #[repr(C)]
-#[derive(Drop)]
+#[derive(Clone, Copy)]
 pub struct Bid {
     pub lot: u64,
     pub ticket: u64,
 }
 
 // A worker's number on a floor, and how many records the list has.
-#[derive(Drop)]
+#[derive(Clone, Copy)]
 pub struct Seat {
     pub floor: Floor,
     pub listed: usize,
@@ -51,7 +51,7 @@ pub struct Seat {
 }
 
 // What an opening has laid out beside the board: the floor, and how many records become idle.
-#[derive(Drop)]
+#[derive(Clone, Copy)]
 pub struct Laid {
     pub floor: Floor,
     pub idle: usize,
@@ -59,7 +59,7 @@ pub struct Laid {
 }
 
 // What a start hands back: the record and the floor as they now stand, and the number of refusal, or 0.
-#[derive(Drop)]
+#[derive(Clone, Copy)]
 pub struct Started {
     pub worker: Worker,
     pub floor: Floor,
@@ -67,7 +67,7 @@ pub struct Started {
 }
 
 // §22.3: what a move hands back: the floor as it now stands, and the number of refusal, or 0.
-#[derive(Drop)]
+#[derive(Clone, Copy)]
 pub struct Moved {
     pub floor: Floor,
     pub refusal: u8,
@@ -75,7 +75,7 @@ pub struct Moved {
 
 // §4.10: what the turns done come to.
 #[repr(C)]
-#[derive(Drop)]
+#[derive(Clone, Copy)]
 pub struct Totals {
     pub turns: u32,
     pub changes: u32,
@@ -84,14 +84,14 @@ pub struct Totals {
 }
 
 // The bucket of a lot, and the mark word that stands in it.
-#[derive(Drop)]
+#[derive(Clone, Copy)]
 pub struct Touched {
     pub word: u64,
     pub bucket: usize,
 }
 
 // §2.9, §14.9: what a count answers.
-#[derive(Drop)]
+#[derive(Clone, Copy)]
 pub enum Counted {
     Refusal(u8),
     Lots(usize),

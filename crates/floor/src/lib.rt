@@ -17,7 +17,7 @@ pub use list::take_at;
 
 // The floor as it now stands, and the number of refusal, or 0.
 #[repr(C)]
-#[derive(Drop)]
+#[derive(Clone, Copy)]
 pub struct Outcome {
     pub floor: Floor,
     pub refusal: u8,
@@ -26,7 +26,7 @@ pub struct Outcome {
 // §14.9: a turn's report in numbers: whether the call ended and with which answer, the bucket with its mark word before the turn and after
 // it, the action (1 read, 2 store, 3 won, 4 lost; 0 where the turn was refused), and whether it was a full round.
 #[repr(C)]
-#[derive(Drop)]
+#[derive(Clone, Copy)]
 pub struct ReportOutcome {
     pub answer: u64,
     pub before: u64,
@@ -39,7 +39,7 @@ pub struct ReportOutcome {
 
 // A turn's report, and the number of refusal, or 0.
 #[repr(C)]
-#[derive(Drop)]
+#[derive(Clone, Copy)]
 pub struct TurnOutcome {
     pub report: ReportOutcome,
     pub refusal: u8,
@@ -47,7 +47,7 @@ pub struct TurnOutcome {
 
 // The last turn's report, what the turns done come to, and the number that stopped the run, or 0.
 #[repr(C)]
-#[derive(Drop)]
+#[derive(Clone, Copy)]
 pub struct RunOutcome {
     pub last: ReportOutcome,
     pub totals: Totals,
@@ -56,7 +56,7 @@ pub struct RunOutcome {
 
 // So many words of the lent board, from this one on.
 #[repr(C)]
-#[derive(Drop)]
+#[derive(Clone, Copy)]
 pub struct Part {
     pub start: usize,
     pub words: usize,
@@ -64,7 +64,7 @@ pub struct Part {
 
 // The lots on the board, and the number of refusal, or 0.
 #[repr(C)]
-#[derive(Drop)]
+#[derive(Clone, Copy)]
 pub struct CountOutcome {
     pub lots: usize,
     pub refusal: u8,
@@ -72,7 +72,7 @@ pub struct CountOutcome {
 
 // §21.3: the number of valid slots that the index has, and the number of refusal, or 0.
 #[repr(C)]
-#[derive(Drop)]
+#[derive(Clone, Copy)]
 pub struct TotalOutcome {
     pub total: u64,
     pub refusal: u8,
@@ -80,7 +80,7 @@ pub struct TotalOutcome {
 
 // §21.4: whether there is a next occupied bucket, and which, and the number of refusal, or 0.
 #[repr(C)]
-#[derive(Drop)]
+#[derive(Clone, Copy)]
 pub struct NextOutcome {
     pub bucket: usize,
     pub found: bool,

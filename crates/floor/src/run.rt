@@ -5,7 +5,7 @@ ghost use Rattle.floor.specs.Running.{begun, gone_on};
 use engine::{Floor, Totals, tally};
 use turn::{Report, Said};
 
-#[derive(Drop)]
+#[derive(Clone, Copy)]
 pub struct Running {
     pub totals: Totals,
     pub at: usize,

@@ -10,14 +10,14 @@ use turn::{Retired, Tried, Worker, refusal, retire};
 mod display; // the five words
 
 // §21.3, §14.9: what the display is told of the total.
-#[derive(Drop)]
+#[derive(Clone, Copy)]
 pub enum Totalled {
     Refusal(u8),
     Slots(u64),
 }
 
 // §21.4, §14.9: what it is told of the next bucket: that there is none is no number.
-#[derive(Drop)]
+#[derive(Clone, Copy)]
 pub enum Next {
     Refusal(u8),
     Nowhere,

@@ -6,7 +6,7 @@ use sheet::{LIMIT, ROOM};
 use walks::{Class, Walked, Walks};
 
 // §18.7: the listing's length, where the sheet was refused; the number and the offset, where all orders was; and else the counts.
-#[derive(Drop)]
+#[derive(Clone, Copy)]
 enum Answer {
     Listing(usize),
     Refused(u8, usize),

@@ -17,7 +17,7 @@ mod writing; // the lines of a sheet
 pub const TEXT: usize = 4 * LIMIT + 64;
 
 // The next word of a line, from start to end.
-#[derive(Drop)]
+#[derive(Clone, Copy)]
 pub struct Word {
     pub start: usize,
     pub end: usize,
@@ -25,7 +25,7 @@ pub struct Word {
 
 // What was found where something is expected: its value and the place behind it; or the place where something else stands, and the number
 // of what is expected there, which is else 0.
-#[derive(Drop)]
+#[derive(Clone, Copy)]
 pub struct Got {
     pub value: u64,
     pub at: usize,
@@ -33,7 +33,7 @@ pub struct Got {
 }
 
 // How many bytes are written, and the place behind the text that they are of; or the place where something else stands, and its number.
-#[derive(Drop)]
+#[derive(Clone, Copy)]
 pub struct Made {
     pub written: usize,
     pub at: usize,
@@ -41,7 +41,7 @@ pub struct Made {
 }
 
 // A text that was written: how long it is; and whether the sheet was whole, or the place of the field that is malformed.
-#[derive(Drop)]
+#[derive(Clone, Copy)]
 pub struct Recited {
     pub written: usize,
     pub at: usize,
@@ -49,14 +49,14 @@ pub struct Recited {
 }
 
 // A line and a column, both counted from 1.
-#[derive(Drop)]
+#[derive(Clone, Copy)]
 pub struct Spot {
     pub line: usize,
     pub column: usize,
 }
 
 // What a line says: a floor; a call, and whether its ticket takes eight bytes; turns, by the place where they begin and how many they are.
-#[derive(Drop)]
+#[derive(Clone, Copy)]
 enum Entry {
     Floor(Plan),
     Call(Call, bool),
@@ -64,7 +64,7 @@ enum Entry {
 }
 
 // What a line says, and the place behind it; or the place where something else stands, and the number of what is expected there.
-#[derive(Drop)]
+#[derive(Clone, Copy)]
 struct Said {
     pub entry: Entry,
     pub at: usize,

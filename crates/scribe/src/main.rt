@@ -11,7 +11,7 @@ const MOST: usize = 262144;
 const SAID: usize = 256;
 
 // How many bytes stand in the buffer for standard output, and in that for standard error.
-#[derive(Drop)]
+#[derive(Clone, Copy)]
 struct Answered {
     written: usize,
     said: usize,

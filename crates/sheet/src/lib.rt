@@ -23,7 +23,7 @@ pub const LIMIT: usize = 16384;
 pub const ROOM: usize = 37 * LIMIT / 13 + 26;
 
 // A call that a sheet asks for.
-#[derive(Drop)]
+#[derive(Clone, Copy)]
 pub struct Call {
     pub lot: u64,
     pub ticket: u64,
@@ -32,13 +32,13 @@ pub struct Call {
 }
 
 // Where the turns of a field stand in the sheet.
-#[derive(Drop)]
+#[derive(Clone, Copy)]
 pub struct Span {
     pub start: usize,
     pub end: usize,
 }
 
-#[derive(Drop)]
+#[derive(Clone, Copy)]
 pub enum Field {
     Opening(Plan),
     Calling(Call),
@@ -46,7 +46,7 @@ pub enum Field {
 }
 
 // §8.5, §14.6: a field that was read, with the place after it, or the place of one that cannot be.
-#[derive(Drop)]
+#[derive(Clone, Copy)]
 pub enum Read {
     Whole(Field, usize),
     Refused(usize),
@@ -54,7 +54,7 @@ pub enum Read {
 
 // Where a sheet leaves the desk: the records and the floor from which it can go on, those of a shut desk where it was refused; how long
 // the listing is; and the number that refused it, or 0.
-#[derive(Drop)]
+#[derive(Clone, Copy)]
 pub struct Played {
     pub records: [Worker; 64],
     pub floor: Floor,
@@ -63,7 +63,7 @@ pub struct Played {
 }
 
 // What a turn has left of its worker's record and of the totals, how long the listing is, and the number that refused it, or 0.
-#[derive(Drop)]
+#[derive(Clone, Copy)]
 struct Took {
     pub worker: Worker,
     pub totals: Totals,

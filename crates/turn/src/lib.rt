@@ -1,4 +1,6 @@
 // One worker and one bucket: the worker's record, the eight words of its lot's bucket, and what one turn does to them.
+#![tactic(auto)]
+
 ghost use Rattle.std.specs.Prelude.{◌≡◌};
 ghost use Rattle.turn.specs.Turn.{bucket_refusal, turn_refusal, after, no_report, refused, reported, done, try_turn};
 
@@ -11,7 +13,7 @@ mod place; // the place table
 
 // §3.2: what a worker is at. Widest fields first, and they fill it: no byte of it is left to chance.
 #[repr(C)]
-#[derive(Drop)]
+#[derive(Clone, Copy)]
 pub struct Worker {
     pub key: u64,
     pub word: u64,
@@ -25,7 +27,7 @@ pub struct Worker {
 }
 
 // §4.8, §14.3: the one memory action of a turn; of a swap, whether it was won.
-#[derive(Drop)]
+#[derive(Clone, Copy)]
 pub enum Action {
     Read,
     Store,
@@ -34,7 +36,7 @@ pub enum Action {
 }
 
 // §4.8, §14.3: where the call stands after a turn; one that has ended has its answer here.
-#[derive(Drop)]
+#[derive(Clone, Copy)]
 pub enum Progress {
     GoesOn,
     Ended(u64),
@@ -42,7 +44,7 @@ pub enum Progress {
 
 // §4.8, §4.12, §14.3: what a turn reports: how it came out, and of its bucket the number, and the mark word before the turn and after it. The
 // two words stand apart, as they are written one by one and would be copied as a pair.
-#[derive(Drop)]
+#[derive(Clone, Copy)]
 pub struct Report {
     pub bucket: usize,
     pub before: u64,
@@ -53,7 +55,7 @@ pub struct Report {
 }
 
 // What a step leaves of the worker, and how it came out.
-#[derive(Drop)]
+#[derive(Clone, Copy)]
 pub struct Stepped {
     pub worker: Worker,
     pub progress: Progress,
@@ -62,7 +64,7 @@ pub struct Stepped {
 }
 
 // What a turn says: its report, the report of none where it was refused; the number of refusal, or 0; and the place that it was tried at.
-#[derive(Drop)]
+#[derive(Clone, Copy)]
 pub struct Said {
     pub report: Report,
     pub refusal: u8,
@@ -70,14 +72,14 @@ pub struct Said {
 }
 
 // A turn that was tried: the record that it leaves, which is the one it was given where it was refused.
-#[derive(Drop)]
+#[derive(Clone, Copy)]
 pub struct Tried {
     pub worker: Worker,
     pub said: Said,
 }
 
 // What a retiring hands back: the record as it now stands, and the number of refusal, or 0.
-#[derive(Drop)]
+#[derive(Clone, Copy)]
 pub struct Retired {
     pub worker: Worker,
     pub refusal: u8,

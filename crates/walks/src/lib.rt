@@ -9,7 +9,7 @@ mod small; // whether a class is small, and whole
 mod told; // the answer that crosses to C
 
 // §18.4: the walks that finished, those that were cut, the swaps that were lost in all of them, and the most that were lost in one.
-#[derive(Drop)]
+#[derive(Clone, Copy)]
 pub struct Walks {
     pub finished: u64,
     pub cut: u64,
@@ -18,14 +18,14 @@ pub struct Walks {
 }
 
 // §18.4, §14.9: what all orders answers.
-#[derive(Drop)]
+#[derive(Clone, Copy)]
 pub enum Walked {
     Refusal(u8),
     Orders(Walks),
 }
 
 // The first three records of a list, and how many the list has; those past its end are not looked at.
-#[derive(Drop)]
+#[derive(Clone, Copy)]
 pub struct Class {
     pub first: Worker,
     pub second: Worker,
@@ -35,7 +35,7 @@ pub struct Class {
 
 // §18.4: the counts over all walks, and the number of refusal, or 0.
 #[repr(C)]
-#[derive(Drop)]
+#[derive(Clone, Copy)]
 pub struct OrdersOutcome {
     pub finished: u64,
     pub cut: u64,

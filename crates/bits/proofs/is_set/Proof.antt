@@ -8,12 +8,12 @@ use Rattle.bits.proofs.Bit.{bit_past}
 use Rattle.bits.proofs.is_set.Statement.{statement}
 use Rattle.bits.proofs.is_set.Tie as tie
 
-returns : tie.Need-returns
+returns : tie.Need-returns-then-bit-ge-BITS
 returns c =
     let s = c.before in
-    sym (bit_past s.args.word s.args.bit s.ranges.word.fits c.if1.true)
+    sym (bit_past s.args.word s.args.bit s.ranges.word.fits c.if-bit-ge-BITS.true)
 
-returns_2 : tie.Need-returns-2
+returns_2 : tie.Need-returns
 unfolding is_set
 returns_2 c = ap (λ (x : ℕ). eqb x 1) (and_mask (c.before.args.word / 2 ^ c.before.args.bit) 1)
 

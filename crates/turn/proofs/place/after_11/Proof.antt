@@ -15,7 +15,7 @@ after_11_spec =
     (λ c.
     let t = c.before in
     let a = t.before.before.args in
-    passed _ _ _ _ (first_fails _ _ (ne_eqb a.read a.w.key t.if1.true)) c.next_key_lem.ensures)
+    passed _ _ _ _ (first_fails _ _ (ne_eqb a.read a.w.key t.if-read-w.true)) c.next_key.ensures)
     (λ c κs. search rules) (λ c κs. search rules)
     (λ c.
     let v = c.before in
@@ -23,9 +23,9 @@ after_11_spec =
     let e = m.before in
     let a = e.before.before.args in
     chosen _ _ _ _
-    (both_hold _ _ (eq-eqb a.read a.w.key e.if1.false)
-    (eq_of (mark_of a.w.word a.w.slot) 1 _ m.mark_of_lem.ensures v.if2.true))
-    c.read-to.ensures)
+    (both_hold _ _ (eq-eqb a.read a.w.key e.if-read-w.false)
+    (eq_of (mark_of a.w.word a.w.slot) 1 _ m.mark_of.ensures v.if-mark_of-eq-VALID.true))
+    c.read_to.ensures)
     (λ c κs. search rules)
     (λ c.
     let v = c.before in
@@ -33,6 +33,6 @@ after_11_spec =
     let e = m.before in
     let a = e.before.before.args in
     passed _ _ _ _
-    (second_fails _ _ (eq-eqb a.read a.w.key e.if1.false)
-    (ne_of (mark_of a.w.word a.w.slot) 1 _ m.mark_of_lem.ensures v.if2.false))
-    c.next-key2.ensures))
+    (second_fails _ _ (eq-eqb a.read a.w.key e.if-read-w.false)
+    (ne_of (mark_of a.w.word a.w.slot) 1 _ m.mark_of.ensures v.if-mark_of-eq-VALID.false))
+    c.next_key-2.ensures))

@@ -14,18 +14,18 @@ after_5_spec =
     (λ c.
     let t = c.before in
     let a = t.before.before.args in
-    passed _ _ _ _ (first_fails _ _ (ne_eqb a.read a.w.seen t.if1.true)) c.look-empty.ensures)
+    passed _ _ _ _ (first_fails _ _ (ne_eqb a.read a.w.seen t.if-read-w.true)) c.look_empty.ensures)
     (λ c κs. search rules)
     (λ c.
     let z = c.before in
     let e = z.before in
     let a = e.before.before.args in
-    passed _ _ _ _ (second_fails _ _ (eq-eqb a.read a.w.seen e.if1.false) (denied _ (eq-eqb a.read 0 z.if2.true)))
-    c.look-empty2.ensures)
+    passed _ _ _ _ (second_fails _ _ (eq-eqb a.read a.w.seen e.if-read-w.false) (denied _ (eq-eqb a.read 0 z.if-read-eq0.true)))
+    c.look_empty-then-read-eq0.ensures)
     (λ c κs. search rules)
     (λ c.
     let z = c.before in
     let e = z.before in
     let a = e.before.before.args in
-    chosen _ _ _ _ (both_hold _ _ (eq-eqb a.read a.w.seen e.if1.false) (granted _ (ne_eqb a.read 0 z.if2.false)))
-    c.look-found.ensures))
+    chosen _ _ _ _ (both_hold _ _ (eq-eqb a.read a.w.seen e.if-read-w.false) (granted _ (ne_eqb a.read 0 z.if-read-eq0.false)))
+    c.look_found.ensures))

@@ -9,6 +9,6 @@ unfolding find_slot
 find_slot_spec =
     tie.close (tie.spec
     (λ c κs. search rules) (λ c κs. search rules)
-    (λ c. rw (← c.before.before.first_empty_lem.ensures) (search choices))
+    (λ c. rw (← c.before.before.first_empty-free.ensures) (search choices))
     (λ c κs. search rules)
-    (λ c. rw (← c.before.before.first_empty_lem.ensures) (search choices)))
+    (λ c. rw (← c.before.before.first_empty-free.ensures) (search choices)))

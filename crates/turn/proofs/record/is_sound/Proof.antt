@@ -9,17 +9,17 @@ unfolding sound fits may_stand
 is_sound_spec =
     tie.close
     (tie.spec
-    (λ c. rw (lt-leb _ 2 c.if1.true))
+    (λ c. rw (lt-leb _ 2 c.if-w-gt2.true))
     (λ c κs. search rules)
-    (λ c. let t = c.before in rw (le-leb _ 2 t.before.before.if1.false, t.if2.true) c.insert_fits.ensures)
+    (λ c. let t = c.before in rw (le-leb _ 2 t.before.before.if-w-gt2.false, t.if-w-eq-INSERT.true) c.insert_fits.ensures)
     (λ c κs. search rules)
-    (λ c. let t = c.before in rw (le-leb _ 2 t.before.before.before.before.if1.false, t.if3.true) c.look-fits.ensures)
+    (λ c. let t = c.before in rw (le-leb _ 2 t.before.before.before.before.if-w-gt2.false, t.if-w-eq-LOOK.true) c.look_fits.ensures)
     (λ c κs. search rules)
     (λ c.
     let t = c.before in
-    rw (le-leb _ 2 t.before.before.before.before.before.before.if1.false, t.if4.true) c.remove-fits.ensures)
+    rw (le-leb _ 2 t.before.before.before.before.before.before.if-w-gt2.false, t.if-w-eq-REMOVE.true) c.remove_fits.ensures)
     (λ c.
     let three = c.before.before in
     let two = three.before.before in
-    let slot = le-leb _ 2 two.before.before.if1.false in
-    rw (slot, ne_eqb _ 1 three.if3.false, ne_eqb _ 2 two.if2.false, ne_eqb _ 3 c.if4.false)))
+    let slot = le-leb _ 2 two.before.before.if-w-gt2.false in
+    rw (slot, ne_eqb _ 1 three.if-w-eq-LOOK.false, ne_eqb _ 2 two.if-w-eq-INSERT.false, ne_eqb _ 3 c.if-w-eq-REMOVE.false)))

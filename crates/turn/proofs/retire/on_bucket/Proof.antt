@@ -9,20 +9,20 @@ use Rattle.turn.proofs.retire.on_bucket.Tie as tie
 vacate_requires : tie.Need-vacate-requires
 vacate_requires c κs = λ holds.
     let t = c.before in
-    ((retirable _ _ (sym t.before.retire-refusal.ensures ∙ t.if1.true)).whole holds).eight
+    ((retirable _ _ (sym t.before.retire_refusal-refusal.ensures ∙ t.if-refusal-eq0.true)).whole holds).eight
 
-returns : tie.Need-returns
+returns : tie.Need-returns-then-refusal-eq0
 unfolding retire_on
 returns c =
     let v = c.before.before.before in
     let t = v.before.before in
-    rw (eq-eqb _ 0 (sym t.before.retire-refusal.ensures ∙ t.if1.true), c.idle.ensures, v.vacate.ensures)
+    rw (eq-eqb _ 0 (sym t.before.retire_refusal-refusal.ensures ∙ t.if-refusal-eq0.true), c.idle.ensures, v.vacate.ensures)
 
-returns_2 : tie.Need-returns-2
+returns_2 : tie.Need-returns
 unfolding retire_on
 returns_2 c =
     let e = c.before in
-    rw (← e.before.retire-refusal.ensures, ne_eqb _ 0 e.if1.false, c.refused.ensures)
+    rw (← e.before.retire_refusal-refusal.ensures, ne_eqb _ 0 e.if-refusal-eq0.false, c.refused.ensures)
 
 pub on_bucket_spec : {M : Type 1} → statement M
 on_bucket_spec =
