@@ -40,6 +40,7 @@ pub record PlaceOf (l : Line) (ls : List Line) : Type 0 where
   pub is : get_or ls at no_line ≡ l
 
 pub place_of : (l : Line) (ls : List Line) → Among l ls → PlaceOf l ls
+place_of l [] none = elim none [ ]
 place_of l (m ∷ ms) (inl is) = record { at = 0; under = omega arith; is = is }
 place_of l (m ∷ ms) (inr there) =
     let rest = place_of l ms there in
@@ -47,6 +48,7 @@ place_of l (m ∷ ms) (inr there) =
 
 module _ (l : Line) where
   among_front : (xs ys : List Line) → Among l xs → Among l (xs ++ ys)
+  among_front [] ys none = elim none [ ]
   among_front (x ∷ xs) ys (inl is) = inl is
   among_front (x ∷ xs) ys (inr there) = inr (among_front xs ys there)
 
@@ -93,6 +95,7 @@ module _ (bucket : List ℕ) where
       where
         by : (line_at bucket p ≡ l) ⊎ ⊥ → line_at bucket p ≡ l
         by (inl line) = line
+        by (inr none) = elim none [ ]
 
     own_from : (p : ℕ) → p < 3 → Among l (line_in bucket p) → SlotOf bucket l
     own_from p few there = let own = own_line p there in record { slot = p; few = few; valid = own.0; line = own.1 }
@@ -170,6 +173,7 @@ module _ (n b : ℕ) where
   -- and all of those
   pub for_has : (l : Line) (ls : List Line) → Among l ls → bucket_of l.lot n ≡ b → Among l (lines_for n b ls)
   unfolding lines_for
+  for_has l [] none home = elim none [ ]
   for_has l (m ∷ ms) (inl is) home = rw (eq-eqb (bucket_of m.lot n) b (ap (λ (x : Line). bucket_of x.lot n) is ∙ home)) (inl is)
   for_has l (m ∷ ms) (inr there) home =
       by_cases (Among l) (eqb (bucket_of m.lot n) b) _ _ (λ is. inr (for_has l ms there home)) (λ isnot. for_has l ms there home)

@@ -1,4 +1,6 @@
 // The calls of the desk on a lent board, with one record by value.
+#![tactic(auto)]
+
 ghost use Rattle.std.specs.Prelude.{◌≡◌, cond};
 ghost use Rattle.engine.specs.Refusals.{seat_number, record_number, start_refusal};
 ghost use Rattle.engine.specs.Calls.{start_made, look_call, insert_call, remove_call};

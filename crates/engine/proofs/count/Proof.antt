@@ -12,16 +12,16 @@ use Rattle.engine.proofs.Sizes.{right}
 use Rattle.engine.proofs.count.Statement.{statement}
 use Rattle.engine.proofs.count.Tie as tie
 
-returns : tie.Need-returns
+returns : tie.Need-returns-then-is_wrong
 unfolding count_call count_number
-returns c = count_done _ _ _ (rw (sym c.before.is-wrong.ensures ∙ c.if1.true))
+returns c = count_done _ _ _ (rw (sym c.before.is_wrong.ensures ∙ c.if-is_wrong.true))
 
 -- the loop's choice by the test is the call's choice by the number
 by_number : (t : Bool) (lots : ℕ) → cond t (Refusal 7) (Lots lots) ≡ cond (eqb (cond t 7 0) 0) (Lots lots) (Refusal (cond t 7 0))
 by_number true lots = refl
 by_number false lots = refl
 
-returns_2 : tie.Need-returns-2
+returns_2 : tie.Need-returns
 unfolding count_call count_number
 returns_2 c =
     let e = c.before in
@@ -29,10 +29,10 @@ returns_2 c =
     let board = a.board.now in
     let n = a.floor.buckets in
     count_done _ _ _
-    (rw (sym e.before.is-wrong.ensures ∙ e.if1.false) (c.count.ensures ∙ by_number (any_broken board n) (lots_on board n)))
+    (rw (sym e.before.is_wrong.ensures ∙ e.if-is_wrong.false) (c.count.ensures ∙ by_number (any_broken board n) (lots_on board n)))
 
 count_requires : tie.Need-count-requires
-count_requires c κs = let ok = right _ _ (sym c.before.is-wrong.ensures ∙ c.if1.false) in (ok.buckets, ok.words)
+count_requires c κs = let ok = right _ _ (sym c.before.is_wrong.ensures ∙ c.if-is_wrong.false) in (ok.buckets, ok.words)
 
 pub count_spec : {M : Type 1} → statement M
 count_spec = tie.close (tie.spec (λ c κs. search rules) returns count_requires returns_2)

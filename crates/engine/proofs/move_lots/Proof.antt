@@ -14,8 +14,8 @@ use Rattle.engine.proofs.move_lots.Statement.{statement}
 use Rattle.engine.proofs.move_lots.Tie as tie
 
 -- the sizes of both boards are right
-module _ (c : tie.Else2) where
-  abbrev e : tie.Else1
+module _ (c : tie.Else-has_wrong_words) where
+  abbrev e : tie.Else-are_wrong
   e = c.before.before
 
   abbrev start : tie.Start
@@ -23,11 +23,11 @@ module _ (c : tie.Else2) where
 
   sized : wrong_sizes start.args.floor start.args.old.now start.args.listed ≡ false
   unfolding wrong_sizes
-  sized = sym e.before.are-wrong.ensures ∙ e.if1.left
+  sized = sym e.before.are_wrong.ensures ∙ e.if-are_wrong.false
 
   roomed : wrong_floor (moved_floor start.args.floor start.args.buckets) start.args.board.now ≡ false
   unfolding wrong_floor
-  roomed = sym c.before.has-wrong-words.ensures ∙ c.if2.false
+  roomed = sym c.before.has_wrong_words.ensures ∙ c.if-has_wrong_words.false
 
   old_right : Right start.args.floor start.args.old.now
   old_right = right_sizes _ _ _ sized
@@ -35,44 +35,44 @@ module _ (c : tie.Else2) where
   new_right : Right (moved_floor start.args.floor start.args.buckets) start.args.board.now
   new_right = right _ _ roomed
 
-returns : tie.Need-returns
+returns : tie.Need-returns-then-are_wrong
 unfolding move_call move_number wrong_sizes
-returns c = lots_moved _ _ _ _ _ _ _ _ (rw (sym c.before.are-wrong.ensures ∙ c.if1.true))
+returns c = lots_moved _ _ _ _ _ _ _ _ (rw (sym c.before.are_wrong.ensures ∙ c.if-are_wrong.true))
 
-returns_2 : tie.Need-returns-2
+returns_2 : tie.Need-returns-then-has_wrong_words
 unfolding move_call move_number wrong_sizes wrong_floor
 returns_2 c =
     let e = c.before.before in
-    lots_moved _ _ _ _ _ _ _ _ (rw (sym e.before.are-wrong.ensures ∙ e.if1.false, sym c.before.has-wrong-words.ensures ∙ c.if2.true))
+    lots_moved _ _ _ _ _ _ _ _ (rw (sym e.before.are_wrong.ensures ∙ e.if-are_wrong.false, sym c.before.has_wrong_words.ensures ∙ c.if-has_wrong_words.true))
 
-returns_3 : tie.Need-returns-3
+returns_3 : tie.Need-returns-then-rest-ne0
 unfolding move_call move_number
-returns_3 c = let other = ne_eqb _ 0 c.if3.true in lots_moved _ _ _ _ _ _ _ _ (rw (sized c.before, roomed c.before, other) (rw other))
+returns_3 c = let other = ne_eqb _ 0 c.if-rest-ne0.true in lots_moved _ _ _ _ _ _ _ _ (rw (sized c.before, roomed c.before, other) (rw other))
 
 -- every lot has its slot, or the number says why not
-module _ (c : tie.After-seat-all) where
-  abbrev at : tie.Else3
+module _ (c : tie.After-seat_all-number) where
+  abbrev at : tie.Else-rest-ne0
   at = c.before.before
 
-  seated_number : c.seat-all.result ≡ room_number (start at.before).args.old.now (start at.before).args.floor.buckets (start at.before).args.buckets
-  seated_number = c.seat-all.ensures.0
+  seated_number : c.seat_all-number.result ≡ room_number (start at.before).args.old.now (start at.before).args.floor.buckets (start at.before).args.buckets
+  seated_number = c.seat_all-number.ensures.0
 
-seat_all_requires : tie.Need-seat-all-requires
+seat_all_requires : tie.Need-seat_all-number-requires
 seat_all_requires c κs =
     let k = c.before.before in
     let old = old_right k in
     let new = new_right k in
     ((old.buckets, old.words), ((new.some_bucket, new.buckets), refl))
 
-returns_4 : tie.Need-returns-4
+returns_4 : tie.Need-returns-then-number-ne0
 unfolding move_call move_number
 returns_4 c =
     let s = c.before.before in
     let k = (at s).before in
     lots_moved _ _ _ _ _ _ _ _
-    (rw (sized k, roomed k, eq-eqb _ 0 (at s).if3.false, ← seated_number s, ne_eqb _ 0 c.if4.true))
+    (rw (sized k, roomed k, eq-eqb _ 0 (at s).if-rest-ne0.false, ← seated_number s, ne_eqb _ 0 c.if-number-ne0.true))
 
-lay_all_requires : tie.Need-lay-all-requires
+lay_all_requires : tie.Need-lay_all-requires
 lay_all_requires c κs =
     let g = c.before.before in
     let s = g.before.before in
@@ -80,7 +80,7 @@ lay_all_requires c κs =
     let old = old_right k in
     let new = new_right k in
     let a = (start k).args in
-    let none : room_number a.old.now a.floor.buckets a.buckets ≡ 0 = sym (seated_number s) ∙ g.if4.false in
+    let none : room_number a.old.now a.floor.buckets a.buckets ≡ 0 = sym (seated_number s) ∙ g.if-number-ne0.false in
     let room = passes (any_unsettled a.old.now a.floor.buckets) 6 _ none in
     let few = passes (crowded a.buckets (lines_on a.old.now a.floor.buckets)) 12 0 room.1 in
     record {
@@ -90,11 +90,11 @@ lay_all_requires c κs =
       some_bucket = new.some_bucket;
       buckets = new.buckets;
       words = new.words;
-      seated = s.seat-all.ensures.1 g.if4.false;
+      seated = s.seat_all-number.ensures.1 g.if-number-ne0.false;
       room = sym (crowded_words a.old.now a.buckets a.floor.buckets) ∙ few.0;
     }
 
-returns_5 : tie.Need-returns-5
+returns_5 : tie.Need-returns
 unfolding move_call move_number
 returns_5 c =
     let l = c.before.before in
@@ -102,7 +102,7 @@ returns_5 c =
     let s = g.before.before in
     let k = (at s).before in
     lots_moved _ _ _ _ _ _ _ _
-    (rw (sized k, roomed k, eq-eqb _ 0 (at s).if3.false, ← seated_number s, eq-eqb _ 0 g.if4.false) (simp l.lay-all.ensures))
+    (rw (sized k, roomed k, eq-eqb _ 0 (at s).if-rest-ne0.false, ← seated_number s, eq-eqb _ 0 g.if-number-ne0.false) (simp l.lay_all.ensures))
 
 pub move_lots_spec : {M : Type 1} → statement M
 move_lots_spec =

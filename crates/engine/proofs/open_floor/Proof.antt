@@ -6,24 +6,24 @@ use Rattle.engine.proofs.Sizes.{right_sizes}
 use Rattle.engine.proofs.open_floor.Statement.{statement}
 use Rattle.engine.proofs.open_floor.Tie as tie
 
-returns : tie.Need-returns
+returns : tie.Need-returns-then-are_wrong
 unfolding open_call open_number wrong_sizes
-returns c = record { whole = rw (sym c.before.are-wrong.ensures ∙ c.if1.true) }
+returns c = record { whole = rw (sym c.before.are_wrong.ensures ∙ c.if-are_wrong.true) }
 
 open_requires : tie.Need-open-requires
 unfolding wrong_sizes
 open_requires c κs =
     let e = c.before in
     let a = e.before.before.before.args in
-    let ok = right_sizes (planned a.plan) a.board.now a.listed (sym e.before.are-wrong.ensures ∙ e.if1.false) in
+    let ok = right_sizes (planned a.plan) a.board.now a.listed (sym e.before.are_wrong.ensures ∙ e.if-are_wrong.false) in
     (ok.buckets, ok.words)
 
-returns_2 : tie.Need-returns-2
+returns_2 : tie.Need-returns
 unfolding open_call open_number wrong_sizes
 returns_2 c =
     let o = c.before.before in
     let e = o.before.before in
-    record { whole = rw (sym e.before.are-wrong.ensures ∙ e.if1.false) (simp o.open.ensures) }
+    record { whole = rw (sym e.before.are_wrong.ensures ∙ e.if-are_wrong.false) (simp o.open.ensures) }
 
 pub open_floor_spec : {M : Type 1} → statement M
 open_floor_spec =

@@ -11,7 +11,7 @@ rest_refusal_spec =
     (tie.spec
     (λ c. record { whole = search choices })
     (λ c κs. search rules)
-    (λ c. record { whole = rw (ne_eqb _ 3 c.before.before.if1.false) (by_idleness _ _ _ _ _ (search choices)) })
+    (λ c. record { whole = rw (ne_eqb _ 3 c.before.before.if-number-eq-BROKEN_RECORD.false) (by_idleness _ _ _ _ _ (search choices)) })
     (λ c κs. search rules)
-    (λ c. record { whole = rw (ne_eqb _ 3 c.before.before.before.before.if1.false) (by_idleness _ _ _ _ _ (search choices)) })
-    (λ c. record { whole = rw (ne_eqb _ 3 c.before.before.before.before.if1.false) (by_idleness _ _ _ _ _ (search choices)) }))
+    (λ c. record { whole = rw (ne_eqb _ 3 c.before.before.before.before.if-number-eq-BROKEN_RECORD.false) (by_idleness _ _ _ _ _ (search choices)) })
+    (λ c. record { whole = rw (ne_eqb _ 3 c.before.before.before.before.if-number-eq-BROKEN_RECORD.false) (by_idleness _ _ _ _ _ (search choices)) }))

@@ -13,6 +13,6 @@ show_refusal_spec =
     (tie.spec
     (λ c κs. search rules)
     (λ c. record { whole = search choices })
-    (λ c κs. right _ _ (sym c.before.is-wrong.ensures ∙ c.if1.false))
+    (λ c κs. right _ _ (sym c.before.is_wrong.ensures ∙ c.if-is_wrong.false))
     (λ c. record { whole = search choices })
     (λ c. record { whole = search choices }))

@@ -3,4 +3,4 @@ use Rattle.engine.proofs.start.Statement.{statement}
 use Rattle.engine.proofs.start.Tie as tie
 
 pub start_spec : {M : Type 1} → statement M
-start_spec = tie.close (tie.spec (λ c. rw (eq-eqb _ 0 c.if1.true)) (λ c. rw (ne_eqb _ 0 c.if1.false)))
+start_spec = tie.close (tie.spec (λ c. rw (eq-eqb _ 0 c.if-refusal-eq0.true)) (λ c. rw (ne_eqb _ 0 c.if-refusal-eq0.false)))

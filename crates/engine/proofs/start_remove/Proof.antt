@@ -13,4 +13,4 @@ start_remove_spec =
     (λ c κs. search rules)
     (λ c κs. search rules)
     (λ c κs. search rules)
-    (λ c. let n = c.before in record { whole = c.start.ensures ∙ rw (n.remove-of.ensures, n.before.start_refusal_lem.ensures) }))
+    (λ c. let n = c.before in record { whole = c.start.ensures ∙ rw (n.remove_of.ensures, n.before.start_refusal-refusal.ensures) }))

@@ -9,7 +9,7 @@ use Rattle.engine.proofs.Turns.{refused_tried}
 use Rattle.engine.proofs.try_turn.Statement.{statement}
 use Rattle.engine.proofs.try_turn.Tie as tie
 
-returns : tie.Need-returns
+returns : tie.Need-returns-then-refusal-ne0
 unfolding try_call turn_number each_number wrong_sizes
 returns c =
     let t = c.before in
@@ -17,14 +17,14 @@ returns c =
     let a = n.before.before.before.args in
     record {
       whole =
-          refused_tried _ a.seat.floor a.board.now a.w _ (ne_eqb _ 0 t.if1.true) c.refused.ensures
-          ∙ ap (λ (m : ℕ). tried m a.seat.floor a.board.now a.w) (seat_first _ _ _ _ _ n.seat-refusal.ensures _ t.if1.true);
+          refused_tried _ a.seat.floor a.board.now a.w _ (ne_eqb _ 0 t.if-refusal-ne0.true) c.refused.ensures
+          ∙ ap (λ (m : ℕ). tried m a.seat.floor a.board.now a.w) (seat_first _ _ _ _ _ n.seat_refusal-refusal.ensures _ t.if-refusal-ne0.true);
     }
 
 turn_requires : tie.Need-turn-requires
-turn_requires c κs = let e = c.before in seat_right _ _ _ _ _ e.before.seat-refusal.ensures e.if1.false
+turn_requires c κs = let e = c.before in seat_right _ _ _ _ _ e.before.seat_refusal-refusal.ensures e.if-refusal-ne0.false
 
-returns_2 : tie.Need-returns-2
+returns_2 : tie.Need-returns
 unfolding try_call turn_number each_number wrong_sizes
 returns_2 c =
     let t = c.before.before in
@@ -33,7 +33,7 @@ returns_2 c =
     record {
       whole =
           t.turn.ensures
-          ∙ ap (λ (m : ℕ). tried m a.seat.floor a.board.now a.w) (seat_after _ _ _ _ _ e.before.seat-refusal.ensures _ e.if1.false);
+          ∙ ap (λ (m : ℕ). tried m a.seat.floor a.board.now a.w) (seat_after _ _ _ _ _ e.before.seat_refusal-refusal.ensures _ e.if-refusal-ne0.false);
     }
 
 pub try_turn_spec : {M : Type 1} → statement M

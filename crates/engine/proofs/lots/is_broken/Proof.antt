@@ -12,4 +12,4 @@ is_broken_spec =
     (λ c κs. search rules)
     (λ c. search rules) (λ c. search rules) (λ c. search rules) (λ c. search rules) (λ c. search rules)
     (λ c κs. search rules)
-    (λ c. let f = c.before.before in c.is-broken.ensures ∙ ap broken_bucket (part_at _ _ _ f.first_word.ensures.0)))
+    (λ c. let f = c.before.before in c.is_broken.ensures ∙ ap broken_bucket (part_at _ _ _ f.first_word-at.ensures.0)))

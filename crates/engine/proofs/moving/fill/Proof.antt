@@ -14,8 +14,8 @@ returns c =
     let clear = first.before.before.before.before in
     let a = clear.before.before.before.before.args in
     let old = a.old.now in
-    third.put3.ensures
-    ∙ ap (λ (l : List ℕ). put_from old l 2 a.three) (second.put2.ensures ∙ ap (λ (l : List ℕ). put_from old l 1 a.two)
+    third.put-3.ensures
+    ∙ ap (λ (l : List ℕ). put_from old l 2 a.three) (second.put-2.ensures ∙ ap (λ (l : List ℕ). put_from old l 1 a.two)
     (first.put.ensures ∙ ap (λ (l : List ℕ). put_from old l 0 a.one) clear.clear.ensures))
 
 pub fill_spec : {M : Type 1} → statement M

@@ -5,16 +5,16 @@ use Rattle.engine.proofs.moving.is_unsettled.Statement.{statement}
 use Rattle.engine.proofs.moving.is_unsettled.Tie as tie
 
 -- no mark before the last is 2
-returns_4 : tie.Need-returns-4
+returns_4 : tie.Need-returns
 returns_4 c =
     let third = c.before in
     let second = third.before.before in
     let first = second.before.before.before in
     rw (
-      sym first.before.is-broken.ensures ∙ first.if1.false,
-      ne_of _ 2 _ second.before.mark_of_lem.ensures second.if2.false,
-      ne_of _ 2 _ third.before.mark-of2.ensures third.if3.false,
-      c.mark-of3.ensures,
+      sym first.before.is_broken.ensures ∙ first.if-is_broken.false,
+      ne_of _ 2 _ second.before.mark_of.ensures second.if-mark_of-eq-BEING_INSERTED.false,
+      ne_of _ 2 _ third.before.mark_of-2.ensures third.if-mark_of-eq-BEING_INSERTED-2.false,
+      c.mark_of-3.ensures,
     )
 
 pub is_unsettled_spec : {M : Type 1} → statement M

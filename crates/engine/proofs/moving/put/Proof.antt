@@ -7,10 +7,10 @@ use Rattle.engine.specs.Seating.{no_lot}
 use Rattle.engine.proofs.moving.put.Statement.{statement}
 use Rattle.engine.proofs.moving.put.Tie as tie
 
-returns_2 : tie.Need-returns-2
+returns_2 : tie.Need-returns
 returns_2 c =
     let m = c.before.before in
-    rw (ne_eqb _ no_lot m.before.before.if1.false, m.with-mark.ensures)
+    rw (ne_eqb _ no_lot m.before.before.if-word-eq-FREE.false, m.with_mark.ensures)
 
 pub put_spec : {M : Type 1} → statement M
 put_spec =

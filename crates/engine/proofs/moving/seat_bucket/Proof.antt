@@ -13,12 +13,12 @@ returns c =
     let first = second.before.before.before.before in
     let a = first.before.before.before.before.args in
     let old = a.old.now in (
-      third.seat-slot3.ensures.0,
-      subst (SeatsMore old a.buckets (lot_words_in old a.b) a.from.now third.seat-slot3.new.1.0)
-          (sym (c.either2.ensures ∙ ap (λ (t : Bool). first.seat-slot.result || t) c.before.either.ensures))
-          (seats_then old a.buckets (lot_word old a.b 0) _ _ _ _ _ _ first.seat-slot.ensures.1
-          (seats_then old a.buckets (lot_word old a.b 1) (lot_word old a.b 2) _ _ _ _ _ second.seat-slot2.ensures.1
-          third.seat-slot3.ensures.1)),
+      third.seat_slot-third.ensures.0,
+      subst (SeatsMore old a.buckets (lot_words_in old a.b) a.from.now third.seat_slot-third.new.from)
+          (sym (c.either-2.ensures ∙ ap (λ (t : Bool). first.seat_slot-first.result || t) c.before.either.ensures))
+          (seats_then old a.buckets (lot_word old a.b 0) _ _ _ _ _ _ first.seat_slot-first.ensures.1
+          (seats_then old a.buckets (lot_word old a.b 1) (lot_word old a.b 2) _ _ _ _ _ second.seat_slot-second.ensures.1
+          third.seat_slot-third.ensures.1)),
     )
 
 pub seat_bucket_spec : {M : Type 1} → statement M

@@ -10,27 +10,27 @@ use Rattle.engine.proofs.Seating.{slot_empty, slot_lacks, slot_next}
 use Rattle.engine.proofs.moving.seat_slot.Statement.{statement}
 use Rattle.engine.proofs.moving.seat_slot.Tie as tie
 
-returns : tie.Need-returns
+returns : tie.Need-returns-then-mark_of-ne-VALID
 returns c =
     let m = c.before in
     let start = m.before.before.before.before in
     let a = start.args in
     let pre = start.requires.0 in
     let few = start.requires.1 in
-    (pre.long, slot_empty a.old.now a.buckets a.b a.slot few pre.some_bucket pre.buckets a.from.now (λ is. c.if1.true (m.mark_of_lem.ensures ∙ is)))
+    (pre.long, slot_empty a.old.now a.buckets a.b a.slot few pre.some_bucket pre.buckets a.from.now (λ is. c.if-mark_of-ne-VALID.true (m.mark_of.ensures ∙ is)))
 
 -- the slot is valid, and the word of its lot is known
-module _ (c : tie.After-taken) where
-  abbrev at : tie.After-bucket-of
-  at = c.before.before
+module _ (c : tie.After-taken-k) where
+  abbrev at : tie.After-bucket_of-at
+  at = c.before
 
-  abbrev m : tie.After-mark-of
+  abbrev m : tie.After-mark_of
   m = at.before.before.before
 
   abbrev start : tie.Start
   start = m.before.before.before.before
 
-returns_2 : tie.Need-returns-2
+returns_2 : tie.Need-returns-then-k-eq3
 returns_2 c =
     let t = c.before in
     let a = (start t).args in
@@ -38,24 +38,24 @@ returns_2 c =
     let few = (start t).requires.1 in (
       pre.long,
       slot_lacks a.old.now a.buckets a.b a.slot few pre.some_bucket pre.buckets a.from.now
-          (sym (m t).mark_of_lem.ensures ∙ (at t).before.before.if1.false) _ _ (omega arith) (at t).bucket-of.ensures.0
-          (sym t.taken.ensures.0 ∙ c.if2.true),
+          (sym (m t).mark_of.ensures ∙ (at t).before.before.if-mark_of-ne-VALID.false) _ _ (omega arith) (at t).bucket_of-at.ensures.0
+          (sym t.taken-k.ensures.0 ∙ c.if-k-eq3.true),
     )
 
-returns_3 : tie.Need-returns-3
+returns_3 : tie.Need-returns
 returns_3 c =
     let t = c.before in
     let a = (start t).args in
     let pre = (start t).requires.0 in
     let few = (start t).requires.1 in
     let w : ℕ = 8 * a.b + 1 + a.slot in
-    let h = (at t).bucket-of.result in (
-      length-set a.from.now (3 * h + t.taken.result) w ∙ pre.long,
+    let h = (at t).bucket_of-at.result in (
+      length-set a.from.now (3 * h + t.taken-k.result) w ∙ pre.long,
       subst (λ (k : ℕ). SeatsMore a.old.now a.buckets (lot_word a.old.now a.b a.slot) a.from.now (set a.from.now (3 * h + k) w) false)
-          (sym t.taken.ensures.0)
+          (sym t.taken-k.ensures.0)
           (slot_next a.old.now a.buckets a.b a.slot few pre.some_bucket pre.buckets a.from.now
-          (sym (m t).mark_of_lem.ensures ∙ (at t).before.before.if1.false) w h (omega arith) (at t).bucket-of.ensures.0
-          (λ is. c.if2.false (t.taken.ensures.0 ∙ is))),
+          (sym (m t).mark_of.ensures ∙ (at t).before.before.if-mark_of-ne-VALID.false) w h (omega arith) (at t).bucket_of-at.ensures.0
+          (λ is. c.if-k-eq3.false (t.taken-k.ensures.0 ∙ is))),
     )
 
 pub seat_slot_spec : {M : Type 1} → statement M

@@ -16,4 +16,4 @@ retire_refusal_spec =
     (λ c κs. search rules)
     (λ c.
     let f = c.before.before in
-    c.retire-number.ensures ∙ ap (λ (l : List ℕ). retire_refusal l f.before.before.args.w) (part_at _ _ _ f.first_word.ensures.0)))
+    c.retire_number.ensures ∙ ap (λ (l : List ℕ). retire_refusal l f.before.before.args.w) (part_at _ _ _ f.first_word-at.ensures.0)))

@@ -15,5 +15,5 @@ retired_spec =
     let t = c.before.before in
     let f = t.before.before in
     let a = f.before.before.args in
-    retire_on_lem a.floor a.board.now a.w f.first_word.result t.on-bucket.new.0
-    t.on-bucket.result f.first_word.ensures.0 t.on-bucket.ensures))
+    retire_on_lem a.floor a.board.now a.w f.first_word-at.result t.on_bucket.new.lent
+    t.on_bucket.result f.first_word-at.ensures.0 t.on_bucket.ensures))

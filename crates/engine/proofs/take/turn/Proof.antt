@@ -15,5 +15,5 @@ turn_spec =
     let t = c.before.before in
     let f = t.before.before in
     let a = f.before.before.args in
-    turn_on a.floor a.board.now a.w f.bucket-of.result t.try-turn.new.0
-    t.try-turn.result f.bucket-of.ensures.0 t.try-turn.ensures))
+    turn_on a.floor a.board.now a.w f.bucket_of-bucket.result t.try_turn.new.lent
+    t.try_turn.result f.bucket_of-bucket.ensures.0 t.try_turn.ensures))

@@ -16,4 +16,4 @@ turn_refusal_spec =
     (λ c κs. search rules)
     (λ c.
     let f = c.before.before in
-    c.turn_number_lem.ensures ∙ ap (λ (l : List ℕ). turn_refusal l f.before.before.args.w) (part_at _ _ _ f.first_word.ensures.0)))
+    c.turn_number.ensures ∙ ap (λ (l : List ℕ). turn_refusal l f.before.before.args.w) (part_at _ _ _ f.first_word-at.ensures.0)))

@@ -8,7 +8,7 @@ returns c =
     let l = f.before.before in
     let h = l.before.before in
     record {
-      whole = simp (c.more4.ensures, f.rounds.ensures, f.before.more3.ensures, l.losses.ensures, l.before.more2.ensures, h.changes.ensures, h.before.more.ensures);
+      whole = simp (c.more-4.ensures, f.rounds.ensures, f.before.more-3.ensures, l.losses.ensures, l.before.more-2.ensures, h.changes.ensures, h.before.more.ensures);
     }
 
 pub add_spec : {M : Type 1} → statement M

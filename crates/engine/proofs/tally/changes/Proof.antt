@@ -8,5 +8,5 @@ changes_spec =
     (tie.spec
     (λ c. search rules) (λ c. search rules) (λ c κs. search rules) (λ c. search rules) (λ c. search rules)
     (λ c. search rules)
-    (λ c. rw c.before.enum-told2.given.1 c.freed.ensures)
+    (λ c. rw c.before.in-Store.is c.freed.ensures)
     (λ c. search rules) (λ c. search rules))

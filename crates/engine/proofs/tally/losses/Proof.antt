@@ -7,5 +7,5 @@ losses_spec =
     tie.close
     (tie.spec
     (λ c. search rules) (λ c. search rules) (λ c. search rules) (λ c. search rules)
-    (λ c. rw c.enum_told.given.1) (λ c. rw c.enum-told2.given.1)
-    (λ c. rw c.enum-told3.given.1) (λ c. rw c.enum-told4.given.1))
+    (λ c. rw c.in-Read.is) (λ c. rw c.in-Store.is)
+    (λ c. rw c.in-Won.is) (λ c. rw c.in-Lost.is))
