@@ -1,4 +1,6 @@
 // The calls of the desk that take the hall display's index: the engine's, which keep it true, and the display's two questions.
+#![tactic(auto)]
+
 ghost use Rattle.std.specs.Prelude.{◌≡◌, true, length};
 ghost use Rattle.engine.specs.Room.{Right};
 ghost use Rattle.hall.specs.Refusals.{untrue_after, untrue_if_held};

@@ -13,24 +13,24 @@ use Rattle.hall.specs.Calls.{hall_move}
 use Rattle.hall.proofs.move_lots.Statement.{statement}
 use Rattle.hall.proofs.move_lots.Tie as tie
 
-returns : tie.Need-returns
+returns : tie.Need-returns-then-index-ne-WORDS
 unfolding hall_move hall_move_number
-returns c = let other = ne_eqb _ _ c.if1.true in record { whole = rw other; kept = refl; number = rw other }
+returns c = let other = ne_eqb _ _ c.if-index-ne-WORDS.true in record { whole = rw other; kept = refl; number = rw other }
 
-returns_2 : tie.Need-returns-2
+returns_2 : tie.Need-returns-then-moved-ne0
 unfolding hall_move hall_move_number move_call
 returns_2 c =
     let m = c.before.before.before.before in
-    let five = eq-eqb _ _ m.before.before.if1.false in
+    let five = eq-eqb _ _ m.before.before.if-index-ne-WORDS.false in
     record {
-      whole = rw five m.move-lots.ensures.whole;
-      kept = rw (ne_eqb _ _ c.if2.true);
-      number = rw five m.move-lots.ensures.number;
+      whole = rw five m.move_lots-moved.ensures.whole;
+      kept = rw (ne_eqb _ _ c.if-moved-ne0.true);
+      number = rw five m.move_lots-moved.ensures.number;
     }
 
 -- where the move is accepted the new board has eight words for each bucket
-module _ (c : tie.Else2) where
-  abbrev m : tie.After-move-lots
+module _ (c : tie.Else-moved-ne0) where
+  abbrev m : tie.After-move_lots-moved
   m = c.before.before.before.before
 
   abbrev start : tie.Start
@@ -40,27 +40,27 @@ module _ (c : tie.Else2) where
   unfolding move_number
   new_right =
       let a = start.args in
-      let none = sym m.move-lots.ensures.number ∙ c.if2.false in
+      let none = sym m.move_lots-moved.ensures.number ∙ c.if-moved-ne0.false in
       let sizes = (passes (wrong_move a.floor a.old.now a.listed a.buckets a.board.now) 0 _ none).0 in
       right _ _ (both_fail (wrong_sizes a.floor a.old.now a.listed) _ sizes).1
 
 make_requires : tie.Need-make-requires
 make_requires c κs =
-    let g = c.before.before in
+    let g = c.before in
     let new = new_right g in
-    ((m g).before.before.if1.false, (new.buckets, omega (arith, new.words)))
+    ((m g).before.before.if-index-ne-WORDS.false, (new.buckets, omega (arith, new.words)))
 
-returns_3 : tie.Need-returns-3
+returns_3 : tie.Need-returns
 unfolding hall_move hall_move_number move_call
 returns_3 c =
     let k = c.before.before in
-    let g = k.before.before.before in
+    let g = k.before.before in
     let m = g.before.before.before.before in
-    let five = eq-eqb _ _ m.before.before.if1.false in
+    let five = eq-eqb _ _ m.before.before.if-index-ne-WORDS.false in
     record {
-      whole = rw five m.move-lots.ensures.whole;
-      kept = rw (eq-eqb _ _ g.if2.false) k.make.ensures;
-      number = rw five m.move-lots.ensures.number;
+      whole = rw five m.move_lots-moved.ensures.whole;
+      kept = rw (eq-eqb _ _ g.if-moved-ne0.false) k.make.ensures;
+      number = rw five m.move_lots-moved.ensures.number;
     }
 
 pub move_lots_spec : {M : Type 1} → statement M

@@ -7,6 +7,6 @@ pub run_refusal_spec : {M : Type 1} → statement M
 run_refusal_spec =
     tie.close
     (tie.spec
-    (λ c. record { whole = rw (ne_eqb _ _ c.if1.true) })
+    (λ c. record { whole = rw (ne_eqb _ _ c.if-entries-ne-WORDS.true) })
     (λ c κs. search rules)
-    (λ c. record { whole = rw (eq-eqb _ _ c.before.if1.false) c.run-refusal.ensures.whole }))
+    (λ c. record { whole = rw (eq-eqb _ _ c.before.if-entries-ne-WORDS.false) c.run_refusal.ensures.whole }))

@@ -6,27 +6,27 @@ use Rattle.hall.proofs.Asked.{asked_first, asked_none, asked_both, total_told_le
 use Rattle.hall.proofs.total.Statement.{statement}
 use Rattle.hall.proofs.total.Tie as tie
 
-returns : tie.Need-returns
+returns : tie.Need-returns-then-run_refusal-ne0
 unfolding total_call
 returns c =
     let r = c.before in
     let a = r.before.before.before.args in
     total_told_lem _ _ _ _
-    (rw (asked_first a.floor a.board.now a.index.now (λ none. c.if1.true (r.run-refusal.ensures.whole ∙ none))))
+    (rw (asked_first a.floor a.board.now a.index.now (λ none. c.if-run_refusal-ne0.true (r.run_refusal.ensures.whole ∙ none))))
 
-read : tie.Need-shared-slice-read-t9
+read : tie.Need-bounds-index-0
 read c =
     let e = c.before in
     let a = e.before.before.before.before.args in
-    omega (arith, (asked_both a.floor a.board.now a.index.now (sym e.before.run-refusal.ensures.whole ∙ e.if1.false)).0)
+    omega (arith, (asked_both a.floor a.board.now a.index.now (sym e.before.run_refusal.ensures.whole ∙ e.if-run_refusal-ne0.false)).0)
 
-returns_2 : tie.Need-returns-2
+returns_2 : tie.Need-returns
 unfolding total_call
 returns_2 c =
     let e = c.before in
     let r = e.before in
     let a = r.before.before.before.args in
-    total_told_lem _ _ _ _ (rw (asked_none a.floor a.board.now a.index.now (sym r.run-refusal.ensures.whole ∙ e.if1.false)))
+    total_told_lem _ _ _ _ (rw (asked_none a.floor a.board.now a.index.now (sym r.run_refusal.ensures.whole ∙ e.if-run_refusal-ne0.false)))
 
 pub total_spec : {M : Type 1} → statement M
 total_spec = tie.close (tie.spec (λ c κs. search rules) returns read returns_2)

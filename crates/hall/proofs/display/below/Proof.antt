@@ -6,5 +6,5 @@ pub below_spec : {M : Type 1} → statement M
 below_spec =
     tie.close
     (tie.spec
-    (λ c. rw (lt-ltb c.before.args.bucket c.before.args.buckets c.if1.true))
-    (λ c. rw (le-ltb c.before.args.bucket c.before.args.buckets c.if1.false)))
+    (λ c. rw (lt-ltb c.before.args.bucket c.before.args.buckets c.if-bucket-buckets.true))
+    (λ c. rw (le-ltb c.before.args.bucket c.before.args.buckets c.if-bucket-buckets.false)))

@@ -10,28 +10,28 @@ use Rattle.hall.proofs.display.is_untrue.Tie as tie
 
 -- how bit and marks compare
 compared :
-    (c : tie.After-is-lit)
+    (c : tie.After-is_lit)
     → let s = c.before.before.before in
-    not (beq c.is-lit.result (ltb 0 c.before.valid-slots.result))
+    not (beq c.is_lit.result (ltb 0 c.before.valid_slots-valid.result))
     ≡ xor (bit_in s.args.index.now s.args.bucket) (occupied s.args.word)
 unfolding xor
-compared c = ap₂ (λ (t : Bool) (n : ℕ). not (beq t (ltb 0 n))) c.is-lit.ensures c.before.valid-slots.ensures.0
+compared c = ap₂ (λ (t : Bool) (n : ℕ). not (beq t (ltb 0 n))) c.is_lit.ensures c.before.valid_slots-valid.ensures.0
 
-returns : tie.Need-returns
+returns : tie.Need-returns-then-is_lit-valid
 unfolding untrue
-returns c = rw (sym (compared c.before) ∙ c.if1.true)
+returns c = rw (sym (compared c.before) ∙ c.if-is_lit-valid.true)
 
-returns_2 : tie.Need-returns-2
+returns_2 : tie.Need-returns-then-total-valid
 unfolding untrue
 returns_2 c =
     let e = c.before.before in
-    rw (sym (compared e.before) ∙ e.if1.false, ← e.before.before.valid-slots.ensures.0, lt-ltb _ _ c.if2.true)
+    rw (sym (compared e.before) ∙ e.if-is_lit-valid.false, ← e.before.before.valid_slots-valid.ensures.0, lt-ltb _ _ c.if-total-valid.true)
 
-returns_3 : tie.Need-returns-3
+returns_3 : tie.Need-returns
 unfolding untrue
 returns_3 c =
     let e = c.before.before in
-    rw (sym (compared e.before) ∙ e.if1.false, ← e.before.before.valid-slots.ensures.0, le-ltb _ _ c.if2.false)
+    rw (sym (compared e.before) ∙ e.if-is_lit-valid.false, ← e.before.before.valid_slots-valid.ensures.0, le-ltb _ _ c.if-total-valid.false)
 
 pub is_untrue_spec : {M : Type 1} → statement M
 is_untrue_spec =
