@@ -1,6 +1,8 @@
 // The desk's library: every call over a lent board, one lent list of worker records and, where it keeps or reads one, a lent index. What holds
 // the list is thin: it takes out the record that the call concerns, lets the engine or the hall go on with it, and puts it back. C calls
 // them under these names: include/desk.h.
+#![tactic(auto)]
+
 ghost use Rattle.engine.specs.Calls.{look_call, insert_call, remove_call};
 ghost use Rattle.engine.specs.Promises.{Shown, ShowTested};
 ghost use Rattle.floor.specs.Promises.{FloorOpened, StartLeft, TurnLeft, RetireLeft, RunLeft, MoveLeft, PartShown, CountLeft, TotalLeft, NextLeft};

@@ -5,4 +5,4 @@ use Rattle.floor.proofs.desk_count.Tie as tie
 
 pub desk_count_spec : {M : Type 1} → statement M
 desk_count_spec =
-    tie.close (tie.spec (λ c κs. search rules) (λ c κs. search rules) (λ c. count_left _ _ _ _ c.before.count.ensures c.count2.ensures))
+    tie.close (tie.spec (λ c κs. search rules) (λ c κs. search rules) (λ c. count_left _ _ _ _ c.before.count-counted.ensures c.count.ensures))

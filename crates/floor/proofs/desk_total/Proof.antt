@@ -5,4 +5,4 @@ use Rattle.floor.proofs.desk_total.Tie as tie
 
 pub desk_total_spec : {M : Type 1} → statement M
 desk_total_spec =
-    tie.close (tie.spec (λ c κs. search rules) (λ c κs. search rules) (λ c. total_left _ _ _ _ _ c.before.total.ensures c.total2.ensures))
+    tie.close (tie.spec (λ c κs. search rules) (λ c κs. search rules) (λ c. total_left _ _ _ _ _ c.before.total-totalled.ensures c.total.ensures))

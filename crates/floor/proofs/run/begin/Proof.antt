@@ -16,8 +16,8 @@ begin_spec =
     (λ c.
     let l = c.before in
     let n = l.before in
-    rw (eq-eqb _ 0 (sym n.before.run-refusal.ensures.whole ∙ c.if1.true), n.nothing.ensures.whole, l.no-report.ensures))
+    rw (eq-eqb _ 0 (sym n.before.run_refusal-refusal.ensures.whole ∙ c.if-refusal-eq0.true), n.nothing-totals.ensures.whole, l.no_report-last.ensures))
     (λ c.
     let l = c.before in
     let n = l.before in
-    rw (← n.before.run-refusal.ensures.whole, ne_eqb _ 0 c.if1.false, n.nothing.ensures.whole, l.no-report.ensures)))
+    rw (← n.before.run_refusal-refusal.ensures.whole, ne_eqb _ 0 c.if-refusal-eq0.false, n.nothing-totals.ensures.whole, l.no_report-last.ensures)))

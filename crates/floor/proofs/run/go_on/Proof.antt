@@ -13,5 +13,5 @@ go_on_spec =
     (λ c κs. search rules)
     (λ c.
     let a = c.before in
-    rw (eq-eqb _ 0 a.before.before.if1.true, a.add.ensures.whole, c.next.ensures))
-    (λ c. rw (ne_eqb _ 0 c.before.if1.false)))
+    rw (eq-eqb _ 0 a.before.before.if-said-eq0.true, a.add.ensures.whole, c.next.ensures))
+    (λ c. rw (ne_eqb _ 0 c.before.if-said-eq0.false)))

@@ -10,6 +10,6 @@ whose_spec =
     tie.close
     (tie.spec
     (λ c. search rules)
-    (λ c. omega (arith, c.shared-slice-known.given c.before.before.args.at))
+    (λ c. omega (arith, c.shared_slice_known-1.given c.before.before.args.at))
     (λ c. search rules)
-    (λ c. sym (get_or-eq_default c.before.args.turns.now 0 c.if1.false)))
+    (λ c. sym (get_or-eq_default c.before.args.turns.now 0 c.if-at-turns.false)))

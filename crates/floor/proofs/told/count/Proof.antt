@@ -5,4 +5,4 @@ use Rattle.floor.proofs.told.count.Tie as tie
 pub count_spec : {M : Type 1} → statement M
 count_spec =
     tie.close
-    (tie.spec (λ c. search rules) (λ c. search rules) (λ c. rw c.before.c.given.1) (λ c. rw c.before.c2.given.1))
+    (tie.spec (λ c. search rules) (λ c. search rules) (λ c. rw c.in-Refusal.is) (λ c. rw c.in-Lots.is))

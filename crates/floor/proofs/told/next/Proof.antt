@@ -7,4 +7,4 @@ next_spec =
     tie.close
     (tie.spec
     (λ c. search rules) (λ c. search rules) (λ c. search rules)
-    (λ c. rw c.before.n.given.1) (λ c. rw c.enum_told.given.1) (λ c. rw c.before.n2.given.1))
+    (λ c. rw c.in-Refusal.is) (λ c. rw c.in-Nowhere.is) (λ c. rw c.in-Bucket.is))

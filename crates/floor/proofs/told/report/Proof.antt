@@ -7,4 +7,4 @@ report_spec =
     tie.close
     (tie.spec
     (λ c κs. search rules) (λ c κs. search rules) (λ c κs. search rules)
-    (λ c. rw (c.is-ended.ensures, c.before.action.ensures, c.before.before.ended-with.ensures)))
+    (λ c. rw (c.is_ended.ensures, c.before.action.ensures, c.before.before.ended_with.ensures)))

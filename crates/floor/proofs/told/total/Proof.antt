@@ -5,4 +5,4 @@ use Rattle.floor.proofs.told.total.Tie as tie
 pub total_spec : {M : Type 1} → statement M
 total_spec =
     tie.close
-    (tie.spec (λ c. search rules) (λ c. search rules) (λ c. rw c.before.t.given.1) (λ c. rw c.before.t2.given.1))
+    (tie.spec (λ c. search rules) (λ c. search rules) (λ c. rw c.in-Refusal.is) (λ c. rw c.in-Slots.is))

@@ -7,5 +7,5 @@ pub turn_spec : {M : Type 1} → statement M
 turn_spec =
     tie.close
     (tie.spec
-    (λ c κs. search rules) (λ c. rw (eq-eqb _ 0 c.before.if1.true) c.done.ensures)
-    (λ c κs. search rules) (λ c. rw (ne_eqb _ 0 c.before.if1.false) c.refused.ensures))
+    (λ c κs. search rules) (λ c. rw (eq-eqb _ 0 c.before.if-said-eq0.true) c.done.ensures)
+    (λ c κs. search rules) (λ c. rw (ne_eqb _ 0 c.before.if-said-eq0.false) c.refused.ensures))
