@@ -146,24 +146,24 @@ module _ (board : List ℕ) (f : Floor) (listed depth : ℕ) (many : 3 < listed)
       rw (too_many, ne_eqb number 0 some)
 
 module _ (board : List ℕ) (f : Floor) (records : List Worker) (depth : ℕ) where
-  abbrev by_value_lem : List Worker
-  by_value_lem = records_of (class_of records)
+  abbrev by_value : List Worker
+  by_value = records_of (class_of records)
 
   -- what is told of a list is told of its records by value, if of a list that is too long anything is told alike
-  by_value_lem : {A : Type 0} (told : List Worker → A) → (3 < length records → (ws : List Worker) → told ws ≡ told records) → told by_value_lem ≡ told records
+  by_value_lem : {A : Type 0} (told : List Worker → A) → (3 < length records → (ws : List Worker) → told ws ≡ told records) → told by_value ≡ told records
   by_value_lem {A} told alike = by (dec_le (length records) 3)
     where
-      by : Dec (length records ≤ 3) → told by_value_lem ≡ told records
+      by : Dec (length records ≤ 3) → told by_value ≡ told records
       by (yes few) = ap told (class_is records few)
-      by (no many) = alike (omega arith) by_value_lem
+      by (no many) = alike (omega arith) by_value
 
   -- all orders of a list by value are those of the list: the number, and the whole answer
-  pub same_number : orders_number board f by_value_lem (length records) depth ≡ orders_number board f records (length records) depth
+  pub same_number : orders_number board f by_value (length records) depth ≡ orders_number board f records (length records) depth
   same_number =
       by_value_lem (λ ws. orders_number board f ws (length records) depth)
       (λ many ws. too_many board f (length records) depth many ws ∙ sym (too_many board f (length records) depth many records))
 
-  pub same_call : orders_call board f by_value_lem (length records) depth ≡ orders_call board f records (length records) depth
+  pub same_call : orders_call board f by_value (length records) depth ≡ orders_call board f records (length records) depth
   same_call =
       by_value_lem (λ ws. orders_call board f ws (length records) depth)
       (λ many ws. refused_so board f (length records) depth many ws ∙ sym (refused_so board f (length records) depth many records))

@@ -1,4 +1,6 @@
 // Every order of the turns of a small class, walked: one bucket, and up to three workers.
+#![tactic(auto)]
+
 ghost use Rattle.walks.specs.Promises.{OrdersWalked, OrdersLeft};
 
 use engine::Floor;

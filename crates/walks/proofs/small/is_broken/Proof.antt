@@ -9,6 +9,6 @@ is_broken_spec =
     tie.close
     (tie.spec
     (λ c κs. search rules)
-    (λ c. rw (← c.before.is_idle_lem.ensures, c.if1.true))
+    (λ c. rw (← c.before.is_idle.ensures, c.if-is_idle.true))
     (λ c κs. search rules)
-    (λ c. let i = c.before in rw (← i.before.is_idle_lem.ensures, i.if1.false, c.is-sound.ensures)))
+    (λ c. let i = c.before in rw (← i.before.is_idle.ensures, i.if-is_idle.false, c.is_sound.ensures)))

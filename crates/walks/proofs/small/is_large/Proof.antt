@@ -24,5 +24,5 @@ is_large_spec =
     (λ c. sym (search choices depth 8))
     (λ c.
     let w = c.before in
-    rw (le-leb _ 1 w.before.before.if1.false, le-leb _ 3 w.if2.false, le-leb 1 _ c.if3.false)
+    rw (le-leb _ 1 w.before.before.if-floor-gt1.false, le-leb _ 3 w.if-floor-gt3.false, le-leb 1 _ c.if-depth-lt1.false)
     (above 24 w.before.before.before.before.args.depth)))

@@ -36,17 +36,17 @@ size_refusal_spec =
     (λ c κs. search rules)
     (λ c.
     let a = c.before.before.before.args in
-    wrong_sizes_lem a.board.now a.floor a.listed a.depth _ c.before.run-refusal.ensures c.if1.true)
+    wrong_sizes_lem a.board.now a.floor a.listed a.depth _ c.before.run_refusal.ensures c.if-run_refusal-ne0.true)
     (λ c κs. search rules)
     (λ c.
     let l = c.before in
     let s = l.before in
     let a = s.before.before.before.args in
-    right_sizes a.board.now a.floor a.listed a.depth _ s.before.run-refusal.ensures _ s.if1.false
-    (chosen _ _ _ _ (sym l.is-large.ensures ∙ c.if2.true) refl))
+    right_sizes a.board.now a.floor a.listed a.depth _ s.before.run_refusal.ensures _ s.if-run_refusal-ne0.false
+    (chosen _ _ _ _ (sym l.is_large.ensures ∙ c.if-is_large.true) refl))
     (λ c.
     let l = c.before in
     let s = l.before in
     let a = s.before.before.before.args in
-    right_sizes a.board.now a.floor a.listed a.depth _ s.before.run-refusal.ensures _ s.if1.false
-    (passed _ _ _ _ (sym l.is-large.ensures ∙ c.if2.false) refl)))
+    right_sizes a.board.now a.floor a.listed a.depth _ s.before.run_refusal.ensures _ s.if-run_refusal-ne0.false
+    (passed _ _ _ _ (sym l.is_large.ensures ∙ c.if-is_large.false) refl)))

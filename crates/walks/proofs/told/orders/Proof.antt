@@ -5,4 +5,4 @@ use Rattle.walks.proofs.told.orders.Tie as tie
 pub orders_spec : {M : Type 1} → statement M
 orders_spec =
     tie.close
-    (tie.spec (λ c. search rules) (λ c. search rules) (λ c. rw c.before.w.given.1) (λ c. rw c.before.w2.given.1))
+    (tie.spec (λ c. search rules) (λ c. search rules) (λ c. rw c.in-Refusal.is) (λ c. rw c.in-Orders.is))

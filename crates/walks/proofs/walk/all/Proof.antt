@@ -13,8 +13,8 @@ sum_requires c κs =
     let one = two.before in
     let s = one.before.before.before in
     let a = s.args in (
-      begun_fit (a.depth - 1) a.words 0 (omega (arith, s.requires)) _ _ _ _ one.begun_by_lem.ensures,
-      begun_fit (a.depth - 1) a.words 0 (omega (arith, s.requires)) _ _ _ _ two.begun-by2.ensures,
+      begun_fit (a.depth - 1) a.words 0 (omega (arith, s.requires)) _ _ _ _ one.begun_by-first.ensures,
+      begun_fit (a.depth - 1) a.words 0 (omega (arith, s.requires)) _ _ _ _ two.begun_by-second.ensures,
     )
 
 sum_requires_2 : tie.Need-sum-requires-2
@@ -25,11 +25,11 @@ sum_requires_2 c κs =
     let s = one.before.before.before in
     let a = s.args in (
       sum_fit (a.depth - 1) a.words 0 (omega (arith, s.requires)) _ _ _ _ _ _ _ _ _
-          one.begun_by_lem.ensures two.begun-by2.ensures c.sum.ensures,
-      begun_fit (a.depth - 1) a.words 0 (omega (arith, s.requires)) _ _ _ _ three.begun-by3.ensures,
+          one.begun_by-first.ensures two.begun_by-second.ensures c.sum.ensures,
+      begun_fit (a.depth - 1) a.words 0 (omega (arith, s.requires)) _ _ _ _ three.begun_by-third.ensures,
     )
 
-returns_2 : tie.Need-returns-2
+returns_2 : tie.Need-returns
 returns_2 c =
     let three = c.before.before in
     let two = three.before in
@@ -38,8 +38,8 @@ returns_2 c =
     let s = g.before.before in
     let a = s.args in
     walk_on a.words _ _ _ 0 a.depth _ _ _ _ _
-    (sym g.before.are-idle.ensures ∙ g.if1.false) (omega (arith, s.requires))
-    one.begun_by_lem.ensures two.begun-by2.ensures three.begun-by3.ensures c.before.sum.ensures c.sum2.ensures
+    (sym g.before.are_idle.ensures ∙ g.if-are_idle.false) (omega (arith, s.requires))
+    one.begun_by-first.ensures two.begun_by-second.ensures three.begun_by-third.ensures c.before.sum.ensures c.sum-2.ensures
 
 pub all_spec : {M : Type 1} → statement M
 all_spec =
@@ -49,7 +49,7 @@ all_spec =
     (λ c κs. search rules)
     (λ c.
     let i = c.before.before in
-    c.one.ensures ∙ sym (walk_ends _ _ _ _ _ i.before.args.depth (sym i.are-idle.ensures ∙ c.before.if1.true)))
+    c.one.ensures ∙ sym (walk_ends _ _ _ _ _ i.before.args.depth (sym i.are_idle.ensures ∙ c.before.if-are_idle.true)))
     (λ c. search rules)
     (λ c κs. search rules)
     (λ c. search rules)
