@@ -29,6 +29,7 @@ not_eleven m (inl is) eleven = omega (arith, is, eleven)
 not_eleven m (inr (inl is)) eleven = omega (arith, is, eleven)
 not_eleven m (inr (inr (inl is))) eleven = omega (arith, is, eleven)
 not_eleven m (inr (inr (inr (inl is)))) eleven = omega (arith, is, eleven)
+not_eleven m (inr (inr (inr (inr none)))) eleven = elim none [ ]
 
 -- what is told of a next bucket, which is none of a refusal, is told to C
 tells_next : (board : List ℕ) (n from : ℕ) (x : Next) → IsNext (occupied_at board) n from x → NextTells board n from (next_told x)

@@ -78,6 +78,7 @@ Each P (m ∷ ms) = P m × Each P ms
 
 -- what holds of each of these numbers holds of one of them
 pub one_each : (P : ℕ → Type 0) (ms : List ℕ) → Each P ms → (n : ℕ) → OneOf ms n → P n
+one_each P [] each n none = elim none [ ]
 one_each P (m ∷ ms) each n (inl is) = subst P (sym is) each.0
 one_each P (m ∷ ms) each n (inr later) = one_each P ms each.1 n later
 
@@ -85,6 +86,7 @@ one_each P (m ∷ ms) each n (inr later) = one_each P ms each.1 n later
 
 -- a ticket of the first part of a list stands in the whole
 pub in_front : (t : ℕ) (ts us : List ℕ) → OneOf ts t → OneOf (ts ++ us) t
+in_front t [] us none = elim none [ ]
 in_front t (u ∷ ts) us (inl is) = inl is
 in_front t (u ∷ ts) us (inr rest) = inr (in_front t ts us rest)
 
@@ -96,6 +98,7 @@ in_last t (u ∷ ts) = inr (in_last t ts)
 -- a ticket of a list with one more is of the list, or that one
 pub in_or_last : (t : ℕ) (ts : List ℕ) (u : ℕ) → OneOf (ts ++ (u ∷ [])) t → OneOf ts t ⊎ (t ≡ u)
 in_or_last t [] u (inl is) = inr is
+in_or_last t [] u (inr none) = elim none [ ]
 in_or_last t (x ∷ ts) u (inl is) = inl (inl is)
 in_or_last t (x ∷ ts) u (inr rest) = by (in_or_last t ts u rest)
   where

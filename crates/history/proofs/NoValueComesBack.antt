@@ -57,6 +57,7 @@ module _ {first : State} (ready : Ready first) where
 
   -- tickets that rise from above one are all above it
   above : (low : ℕ) (ts : List ℕ) → Rising low ts → (t : ℕ) → OneOf ts t → low < t
+  above low [] rising t none = elim none [ ]
   above low (u ∷ ts) rising t (inl is) = let first = rising.0 in omega arith
   above low (u ∷ ts) rising t (inr there) = let first = rising.0 in let rest = above u ts rising.1 t there in omega arith
 

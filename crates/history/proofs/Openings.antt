@@ -57,9 +57,9 @@ pub record Follows (before : List Entry) (h : History) (s : State) (turns : List
 
 module _ (h : History) (before : List Entry) where
   -- one thing more is asked
-  goes_on : (a : Asked) → Follows (before ++ turns_since h) (goes_on h a) (leaves (state_since h) a) (turns_by (state_since h) a)
+  goes_on_lem : (a : Asked) → Follows (before ++ turns_since h) (goes_on h a) (leaves (state_since h) a) (turns_by (state_since h) a)
   unfolding state_from trace_from
-  goes_on (asks (calls c)) =
+  goes_on_lem (asks (calls c)) =
       record {
         stands = sym (state_from_then h.first h.calls c);
         older = before;
@@ -68,7 +68,7 @@ module _ (h : History) (before : List Entry) where
             ∙ ap (λ (es : List Entry). before ++ es)
             (sym (trace_from_then h.first h.calls c));
       }
-  goes_on (asks (moves m)) = by (ℕ_discrete (move_number_of (state_since h) m) 0)
+  goes_on_lem (asks (moves m)) = by (ℕ_discrete (move_number_of (state_since h) m) 0)
     where
       by :
           (d : Dec (move_number_of (state_since h) m ≡ 0))
@@ -76,7 +76,7 @@ module _ (h : History) (before : List Entry) where
       by (yes accepted) = record { stands = refl; older = before ++ turns_since h; turns_are = refl }
       by (no refused) =
           record { stands = moves_refused (state_since h) m refused; older = before; turns_are = append-nil (before ++ turns_since h) }
-  goes_on (opens plan fits) = by (ℕ_discrete (reopen_number (state_since h) plan) 0)
+  goes_on_lem (opens plan fits) = by (ℕ_discrete (reopen_number (state_since h) plan) 0)
     where
       by :
           (d : Dec (reopen_number (state_since h) plan ≡ 0))
@@ -92,7 +92,7 @@ all_follow :
 unfolding since leaves_all turns_by_all
 all_follow h before [] = record { stands = refl; older = before; turns_are = append-nil (before ++ turns_since h) }
 all_follow h before (a ∷ asked) =
-    let one = goes_on h before a in
+    let one = goes_on_lem h before a in
     let rest = all_follow (goes_on h a) one.older asked in
     record {
       stands = ap (λ (s : State). leaves_all s asked) one.stands ∙ rest.stands;

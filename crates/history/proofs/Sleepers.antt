@@ -203,7 +203,7 @@ If s i n = Sound (listed_of s i) → (listed_of s i).asleep ≡ capped n
 slept_append : (i n : ℕ) (es fs : List Entry) → slept_through i n (es ++ fs) ≡ slept_through i (slept_through i n es) fs
 unfolding slept_through
 slept_append i n [] fs = refl
-slept_append i n (acted e ∷ es) fs = slept_append i _ es fs
+slept_append i n (acted e ∷ es) fs = slept_append i (cond (eqb e.worker i) 0 (n + 1)) es fs
 slept_append i n (retired r ∷ es) fs = slept_append i n es fs
 
 module _ (i n : ℕ) where
@@ -257,7 +257,7 @@ unfolding state_from trace_from slept_through
 turns_if i n s [] old = old
 turns_if i n s (j ∷ turns) old =
     rw (slept_append i n (entries s (turn j)) (trace_from (after s (turn j)) (map turn turns)))
-    (turns_if i _ (after s (turn j)) turns (turn_if i n s j old))
+    (turns_if i (slept_through i n (entries s (turn j))) (after s (turn j)) turns (turn_if i n s j old))
 
 -- a call
 call_if : (i n : ℕ) (s : State) (c : Call) → If s i n → If (after s c) i (cond (starts_on i s c) 0 (slept_through i n (entries s c)))
@@ -280,7 +280,7 @@ call_if i n s (ask_next from) old = old
 calls_if : (i n : ℕ) (s : State) (cs : List Call) → If s i n → If (state_from s cs) i (asleep_from i n s cs)
 unfolding state_from asleep_from
 calls_if i n s [] old = old
-calls_if i n s (c ∷ cs) old = calls_if i _ (after s c) cs (call_if i n s c old)
+calls_if i n s (c ∷ cs) old = calls_if i (cond (starts_on i s c) 0 (slept_through i n (entries s c))) (after s c) cs (call_if i n s c old)
 
 -- ---- just after its start
 

@@ -201,6 +201,7 @@ module _ (s : State) (ok : Unbroken s) (turns : List ℕ) where
       whole : (number ≡ 0 → ⊥) → OneOf (0 ∷ 9 ∷ []) number → OneOf (9 ∷ 0 ∷ 2 ∷ 6 ∷ []) number
       whole some (inl none) = absurd (some none)
       whole some (inr (inl is)) = inl is
+      whole some (inr (inr none)) = elim none [ ]
 
 -- ---- any call
 

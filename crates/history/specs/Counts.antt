@@ -1,7 +1,7 @@
 -- What is counted in a trace. Each test answers what its type says, a word of Trace, so that no count goes by anything else.
 use Rattle.std.specs.Prelude.{ℕ, cond, List, ◌⊎◌, ◌≡◌, refl}
 use Rattle.std.proofs.Common.{inl, inr, ap, arith}
-use Rattle.std.proofs.Math.Logic.{Dec·and, Dec·not}
+use Rattle.std.proofs.Math.Logic.Dec.{and, not}
 use Rattle.std.proofs.Math.Decide.{ℕ_discrete}
 use Rattle.turn.specs.declared.Action.{Action}
 use Rattle.turn.specs.declared.Action.TheVariants.{Read, Store, Won, Lost}
@@ -60,16 +60,16 @@ is_lost e = turn? (λ t. lost? t.report.action) e
 
 -- whether it is a change
 abbrev pub is_change : (e : Entry) → Dec (Changes e)
-is_change (acted t) = either? (won? t.report.action) (Dec·and (ℕ_discrete t.was.place free_place) (store? t.report.action))
-is_change (retired r) = Dec·not (ℕ_discrete r.was.held no_slot)
+is_change (acted t) = either? (won? t.report.action) (and (ℕ_discrete t.was.place free_place) (store? t.report.action))
+is_change (retired r) = not (ℕ_discrete r.was.held no_slot)
 
 -- whether it is a commit
 abbrev pub is_commit : (e : Entry) → Dec (IsTurn Commits e)
-is_commit e = turn? (λ t. Dec·and (ℕ_discrete t.was.place commit_place) (won? t.report.action)) e
+is_commit e = turn? (λ t. and (ℕ_discrete t.was.place commit_place) (won? t.report.action)) e
 
 -- whether it is a close
 abbrev pub is_close : (e : Entry) → Dec (IsTurn Closes e)
-is_close e = turn? (λ t. Dec·and (ℕ_discrete t.was.place close_place) (won? t.report.action)) e
+is_close e = turn? (λ t. and (ℕ_discrete t.was.place close_place) (won? t.report.action)) e
 
 -- ---- counts
 
