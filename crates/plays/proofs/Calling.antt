@@ -79,9 +79,8 @@ module _ (o : Opening) (done : List Call) (p : Point) (so : Stands o done p) (c 
         ∙ after_call s c small
         ∙ rw (← so.stands.board, seat_same o done p so i, record_same o done p so i known)
 
-    -- it is no turn
-    pub trace_call : trace (opened o) more ≡ trace (opened o) done
-    trace_call =
+    trace_is : trace (opened o) more ≡ trace (opened o) done
+    trace_is =
         trace_from_then (opened o) done (call_of c)
         ∙ ap (λ (es : List Entry). trace (opened o) done ++ es) (entries_call s c)
         ∙ append-nil (trace (opened o) done)
@@ -99,8 +98,8 @@ module _ (o : Opening) (done : List Call) (p : Point) (so : Stands o done p) (c 
                 board = rw state_is so.stands.board;
                 floor = rw state_is;
                 records = rw state_is (records_set o done p so i x.worker known);
-                totals = rw trace_call so.stands.totals;
-                lines = rw trace_call (append-nil p.lines ∙ so.stands.lines);
+                totals = rw trace_is so.stands.totals;
+                lines = rw trace_is (append-nil p.lines ∙ so.stands.lines);
               };
           long = length-set d.records i x.worker ∙ so.long;
         }

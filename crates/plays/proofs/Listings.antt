@@ -16,14 +16,14 @@ use Rattle.engine.specs.Calls.{planned}
 use Rattle.sheet.specs.declared.Field.TheVariants.{Opening, Calling, Turning}
 use Rattle.sheet.specs.declared.Read.{Read}
 use Rattle.sheet.specs.declared.Read.TheVariants.{Whole, Refused}
-use Rattle.sheet.specs.Fields.{read_field, Bytes}
+use Rattle.sheet.specs.Fields.{read_field}
 use Rattle.sheet.specs.Play.{Desk, shut_desk, open_field}
 use Rattle.sheet.specs.Listing.{fields_from, played, words_asked, own_play, listing}
 use Rattle.sheet.proofs.Fielding.{first_field}
 use Rattle.history.specs.Numbers.{OneOf}
 use Rattle.history.proofs.Later.{one_each}
 use Rattle.history.specs.History as History
-use Rattle.plays.specs.Points.{Point, FloorAccepted}
+use Rattle.plays.specs.Points.{Point, Bytes, FloorAccepted}
 use Rattle.plays.specs.Points as Points
 use Rattle.plays.specs.Plays as Last
 use Rattle.plays.specs.Plays.{end_lines, refusals, every_refusal, LastOf, EndsIn, in_totals, in_refusal, NeverBroken}

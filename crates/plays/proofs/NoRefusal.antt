@@ -10,8 +10,7 @@ use borrow.Author.Tests.{eqb-false, ltb-true, lt-ltb, not-true}
 use Rattle.mark.proofs.Choices.{by_cases}
 use Rattle.turn.specs.declared.Progress.{Progress}
 use Rattle.turn.specs.declared.Progress.TheVariants.{GoesOn, Ended}
-use Rattle.pen.specs.Decimal.{decimal_in, decimal}
-use Rattle.sheet.specs.Line.{numbers}
+use Rattle.sheet.specs.Line.{decimal_in, decimal, numbers}
 use Rattle.history.specs.Trace.{Turn, Entry, acted, retired}
 use Rattle.history.specs.Numbers.{OneOf}
 use Rattle.history.proofs.Later.{one_each}

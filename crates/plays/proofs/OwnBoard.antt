@@ -11,11 +11,11 @@ use Rattle.engine.specs.Calls.{planned}
 use Rattle.engine.proofs.Sizes.{opens_right}
 use Rattle.sheet.specs.declared.Field.TheVariants.{Opening}
 use Rattle.sheet.specs.declared.Read.TheVariants.{Whole}
-use Rattle.sheet.specs.Fields.{read_field, Bytes}
+use Rattle.sheet.specs.Fields.{read_field}
 use Rattle.sheet.specs.Listing.{words_asked, own_play, listing}
 use Rattle.history.specs.History as History
 use Rattle.history.specs.History.{Call, opened, trace}
-use Rattle.plays.specs.Points.{FloorAccepted}
+use Rattle.plays.specs.Points.{Bytes, FloorAccepted}
 use Rattle.plays.specs.Plays.{end_lines, PlaysHistory}
 use Rattle.plays.proofs.Plays.{open_stop, plays_history}
 

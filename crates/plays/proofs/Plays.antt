@@ -29,8 +29,7 @@ use Rattle.history.proofs.Opened.{opened_is, opening_ready}
 use Rattle.history.proofs.DemandThree.{demand_three}
 use Rattle.history.specs.Moves as Moves
 use Rattle.clerk.proofs.TheClerk.{the_clerk}
-use Rattle.sheet.specs.Fields.{Bytes}
-use Rattle.plays.specs.Points.{Point, goes, over, refused, next_of, Steps, stays, steps, FloorAccepted, first_point}
+use Rattle.plays.specs.Points.{Point, goes, over, refused, next_of, Steps, stays, steps, Bytes, FloorAccepted, first_point}
 use Rattle.plays.specs.Plays.{end_lines, OnTheWay, LastOf, stop_of, PlaysHistory}
 use Rattle.plays.specs.Plays as Last
 use Rattle.plays.proofs.Readings.{floor_version}
@@ -57,9 +56,9 @@ module _ (sheet : List ℕ) where
       absurd (let z : ◌≡◌ {A = ℕ} 0 1 = cc in omega arith)
 
   -- the number that refused it, or 0
-  stop_told_lem : (p : Point) (t : Told) → LastTold sheet p t → t.stop ≡ stop_of (next_of sheet p)
-  stop_told_lem p t (totals end) = rw end
-  stop_told_lem p t (refusal number offset end) = rw end
+  stop_told : (p : Point) (t : Told) → LastTold sheet p t → t.stop ≡ stop_of (next_of sheet p)
+  stop_told p t (totals end) = rw end
+  stop_told p t (refusal number offset end) = rw end
 
   -- a step leads to one point, by one list of calls
   same_step :
@@ -234,7 +233,7 @@ module _ {sheet board : List ℕ} (f : FloorAccepted sheet board) (bytes : Bytes
                 ap listed_in comes
                 ∙ ap₂ (λ (words lines : List ℕ). after words (lines ++ finishes.tells.lines)) there.board there.lines;
             left = λ end. ap (λ (e : Ending). e.handed.desk) comes ∙ desk_left sheet _ _ finishes.last end;
-            stop = ap (λ (e : Ending). e.handed.stop) comes ∙ stop_told_lem sheet _ _ finishes.last;
+            stop = ap (λ (e : Ending). e.handed.stop) comes ∙ stop_told sheet _ _ finishes.last;
           },
         ),
       )

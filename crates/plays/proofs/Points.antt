@@ -11,13 +11,13 @@ use Rattle.mark.proofs.Choices.{by_cases}
 use Rattle.sheet.specs.declared.Read.{Read}
 use Rattle.sheet.specs.declared.Field.TheVariants.{Opening, Calling, Turning}
 use Rattle.sheet.specs.declared.Read.TheVariants.{Whole, Refused}
-use Rattle.sheet.specs.Fields.{read_field, Bytes}
+use Rattle.sheet.specs.Fields.{read_field}
 use Rattle.sheet.specs.Play.{call_field, turn_at_desk, turns_in}
 use Rattle.history.specs.History as History
 use Rattle.history.specs.History.{Call}
 use Rattle.history.specs.Numbers.{OneOf}
 use Rattle.history.proofs.Later.{one_each}
-use Rattle.plays.specs.Points.{Point, Next, goes, over, refused, after_read, ahead, next_of, Steps, stays, steps}
+use Rattle.plays.specs.Points.{Point, Next, goes, over, refused, after_read, ahead, next_of, Steps, stays, steps, Bytes}
 use Rattle.plays.specs.Plays.{refusals}
 use Rattle.plays.proofs.Readings.{call_ticket}
 use Rattle.plays.proofs.Standing.{Stands, elsewhere, turn_number_is}

@@ -1,9 +1,9 @@
 -- What is read from a sheet of bytes fits: a ticket has 64 bits, and a version 32; and a ticket is the same number in both of its forms. Assumes
 -- nothing.
-use Prim.Native.Nat.{ℕ, ◌+◌, ◌*◌, ◌-◌, ◌^◌, ◌≤◌, ◌<◌}
+use Prim.Native.Nat.{ℕ, zero, suc, ◌+◌, ◌*◌, ◌-◌, ◌^◌, ◌≤◌, ◌<◌}
 use mathlib.Core.Path.{◌≡◌, ap, ◌∙◌}
 use mathlib.Core.List.{List}
-use native.Mathlib.Nat.{pow-le-pow_right}
+use native.Mathlib.Nat.{pow-suc, pow-le-pow_right}
 use native.Mathlib.Omega.{arith}
 use lib.Dec.{eqb}
 use Rattle.mark.proofs.Choices.{by_cases}
@@ -13,10 +13,16 @@ use Rattle.sheet.specs.declared.Call.{Call}
 use Rattle.sheet.specs.declared.Read.{Read}
 use Rattle.sheet.specs.declared.Field.TheVariants.{Opening, Calling}
 use Rattle.sheet.specs.declared.Read.TheVariants.{Whole}
-use Rattle.sheet.specs.Fields.{byte_at, Bytes, number_at, ticket_at, plan_at, call_at, read_field}
+use Rattle.sheet.specs.Fields.{byte_at, number_at, ticket_at, plan_at, call_at, read_field}
 use Rattle.sheet.proofs.Fitting.{fits_within}
 use Rattle.sheet.proofs.Fielding.{Reading, opening_read, calling_read, turning_read, not_read, reading, first_field}
-use Rattle.sheet.proofs.HighFirst.{number_small}
+use Rattle.plays.specs.Points.{Bytes}
+
+-- a number of so many bytes is below that power of 256
+number_small : (sheet : List ℕ) → Bytes sheet → (at n : ℕ) → number_at sheet at n < 256 ^ n
+unfolding number_at
+number_small sheet bytes at zero = omega arith
+number_small sheet bytes at (suc n) = rw pow-suc (omega (arith, number_small sheet bytes at n, bytes (at + n)))
 
 module _ (sheet : List ℕ) (bytes : Bytes sheet) (at n : ℕ) where
   -- a ticket of eight bytes at most has 64 bits

@@ -8,14 +8,13 @@ use lib.Dec.{ltb}
 use lib.ListN.{replicate}
 use borrow.Author.Tests.{ltb-true}
 use Rattle.sheet.specs.Fields as Fields
-use Rattle.pen.specs.Decimal as Decimal
+use Rattle.sheet.specs.Line as Line
 use Rattle.sheet.specs.Play as Play
 use Rattle.sheet.specs.Listing as Listing
 use Rattle.sheet.specs.Listing.{listing}
 use Rattle.engine.specs.Calls as Calls
 use Rattle.history.proofs.Reached.{computed}
-use Rattle.sheet.specs.Fields.{Bytes}
-use Rattle.plays.specs.Points.{FloorAccepted}
+use Rattle.plays.specs.Points.{Bytes, FloorAccepted}
 use Rattle.plays.specs.Sleeper.{sleeper_sheet, sleeper_listing}
 
 -- whether each number is a byte
@@ -50,6 +49,6 @@ sleeper_accepted =
 pub sleeper_listed : listing sleeper_sheet ≡ sleeper_listing
 unfolding
     computed Calls.open_call Calls.turn_call Fields.read_field Fields.is_whole Fields.number_at Fields.field_of Fields.opening_at Fields.calling_at Fields.turning_at
-    Fields.call_fits Fields.ticket_at Decimal.decimal_in Play.open_field Play.asked Play.call_field Play.turn_at_desk Play.turns_done
+    Fields.call_fits Fields.ticket_at Line.decimal_in Play.open_field Play.asked Play.call_field Play.turn_at_desk Play.turns_done
     Listing.fields_from Listing.played Listing.words_asked Listing.own_play Listing.listing
 sleeper_listed = refl

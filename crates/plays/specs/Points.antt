@@ -1,6 +1,6 @@
 -- The points of a sheet's play: where it stands once its floor is open, and after each start and each turn that is done. What is done
 -- between two points is said by the sheet's own definitions of a field, a start and a turn, and nowhere else.
-use Rattle.std.specs.Prelude.{ℕ, ◌≤◌, cond, ◌≡◌, List, [], ◌∷◌, ◌++◌, eqb, length}
+use Rattle.std.specs.Prelude.{ℕ, ◌≤◌, ◌<◌, cond, ◌≡◌, List, [], ◌∷◌, ◌++◌, eqb, length}
 use Rattle.turn.specs.Worker.{look_kind, insert_kind}
 use Rattle.turn.specs.Turn.{After, after}
 use Rattle.engine.specs.declared.Plan.{Plan}
@@ -8,7 +8,7 @@ use Rattle.sheet.specs.declared.Call as Field
 use Rattle.sheet.specs.declared.Field.TheVariants.{Opening, Calling, Turning}
 use Rattle.sheet.specs.declared.Read.{Read}
 use Rattle.sheet.specs.declared.Read.TheVariants.{Whole, Refused}
-use Rattle.sheet.specs.Fields.{read_field}
+use Rattle.sheet.specs.Fields.{byte_at, read_field}
 use Rattle.sheet.specs.Play.{Desk, Outcome, shut_desk, open_field, call_field, turn_at_desk, turns_in}
 use Rattle.history.specs.History.{Call, look, insert, remove, turn, ticket}
 
@@ -78,6 +78,10 @@ pub data Steps (sheet : List ℕ) : Point → List Call → Point → Type 0 whe
   steps : {p q r : Point} {cs ds : List Call} → next_of sheet p ≡ goes cs q → Steps sheet q ds r → Steps sheet p (cs ++ ds) r
 
 -- ---- where a play begins
+
+-- each number of a sheet is a byte
+abbrev pub Bytes : List ℕ → Type 0
+Bytes sheet = (at : ℕ) → byte_at sheet at < 256
 
 -- a sheet whose floor is accepted on a board
 pub record FloorAccepted (sheet board : List ℕ) : Type 0 where

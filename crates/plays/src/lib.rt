@@ -1,1 +1,2 @@
 // What a sheet plays is a history: theorems only, in specs/ and proofs/.
+#![tactic(auto)]
