@@ -4,8 +4,13 @@ use mathlib.Core.Path.{◌≡◌}
 use mathlib.Core.List.{List}
 use Rattle.mark.proofs.OneAnswer.{one_answer}
 use Rattle.sheet.specs.declared.Played.{Played}
-use Rattle.pen.proofs.Determined.{wrote_determined}
+use Rattle.sheet.specs.Written.{Wrote}
 use Rattle.sheet.specs.Promises.{SheetPlayed, SheetListed, BoardAsked, ListingWritten}
+
+-- the buffer, and the place after what was written
+wrote_determined :
+    {out bytes later other : List ℕ} {at r t : ℕ} → Wrote out at bytes later r → Wrote out at bytes other t → (later ≡ other) × (r ≡ t)
+wrote_determined p q = (one_answer p.buffer q.buffer, one_answer p.place q.place)
 
 -- a sheet on a lent board: the board, the buffer, and all that is handed back
 pub stand_determined :

@@ -26,10 +26,10 @@ use Rattle.sheet.specs.Fields.{read_field}
 use Rattle.sheet.specs.Play.{Desk, desk_of, opened_desk, shut_floor, shut_desk, Outcome, outcome, seat_of, record_of, asked, call_field, open_field}
 use Rattle.sheet.specs.Play.{turn_at_desk, and_then, turns_done}
 use Rattle.sheet.specs.Listing.{Told, told, Ending, listed_first, told_refusal, refused, told_totals, over, after_field, one_field, fields_from}
-use Rattle.pen.specs.Written.{Wrote}
+use Rattle.sheet.specs.Written.{Wrote}
 use Rattle.sheet.specs.Room.{due}
 use Rattle.sheet.specs.Promises.{Does, Tells, Leaves}
-use Rattle.pen.proofs.Writing.{wrote_none, wrote_then}
+use Rattle.sheet.proofs.Writing.{wrote_none, wrote_then}
 use Rattle.sheet.proofs.Busy.{busy_none, busy_set_le}
 use Rattle.sheet.proofs.Fielding.{later_field, whole_next, whole_call, whole_turns}
 use Rattle.sheet.proofs.Laying.{laid_refused, laid_done}

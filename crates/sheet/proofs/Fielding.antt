@@ -17,7 +17,7 @@ use Rattle.sheet.specs.declared.Read.{Read}
 use Rattle.sheet.specs.declared.Read.TheVariants.{Whole, Refused}
 use Rattle.sheet.specs.Fields.{byte_at, length_at, is_whole, plan_at, call_at, span_at, opening_at, calling_at, turning_at, field_of, read_field}
 use Rattle.sheet.proofs.Keyed.{by_key}
-use Rattle.sheet.proofs.Fitting.{CallFits, call_fits, fits_long}
+use Rattle.sheet.proofs.Fitting.{CallFits, call_fits_lem, fits_long}
 
 -- each way that a reading at a place can come out
 pub data Reading (sheet : List ℕ) (at : ℕ) : Read → Type 0 where
@@ -51,7 +51,7 @@ module _ (sheet : List ℕ) (at : ℕ) where
     unfolding calling_at
     calling_reading =
         by_cases (Reading sheet at) _ _ _
-        (λ right. let a = (and-eq-true_iff _ _).0 right in calling_read long (not_zero at a.0) (call_fits _ long a.1) fits)
+        (λ right. let a = (and-eq-true_iff _ _).0 right in calling_read long (not_zero at a.0) (call_fits_lem _ long a.1) fits)
         (λ wrong. not_read)
 
     turning_reading : Reading sheet at (turning_at at long)

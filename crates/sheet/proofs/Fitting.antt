@@ -29,9 +29,9 @@ insert_fits kind long insert is = either (eqb long 14) refl is
     either false other on = fits_eight insert (eqb-true long 18 on)
 
 -- the test of a call's length says so
-pub call_fits : (kind long : ℕ) → call_fits kind long ≡ true → CallFits kind long
+pub call_fits_lem : (kind long : ℕ) → call_fits kind long ≡ true → CallFits kind long
 unfolding call_fits
-call_fits kind long =
+call_fits_lem kind long =
     by_cases (λ (t : Bool). t ≡ true → CallFits kind long) _ _ _
     (λ look is. let k = eqb-true kind 1 look in fits_short (eqb-true long 10 is) (omega arith))
     (λ other. by_cases (λ (t : Bool). t ≡ true → CallFits kind long) _ _ _
@@ -54,7 +54,7 @@ fits_within (fits_eight insert is) = omega arith
 
 -- a shorter one fits no call
 pub short_fits_not : (kind long : ℕ) → long < 10 → call_fits kind long ≡ false
-short_fits_not kind long short = is_false _ (λ fits. let more = fits_long (call_fits kind long fits) in omega arith)
+short_fits_not kind long short = is_false _ (λ fits. let more = fits_long (call_fits_lem kind long fits) in omega arith)
   where
     is_false : (t : Bool) → (t ≡ true → ⊥) → t ≡ false
     is_false true never = absurd (never refl)

@@ -1,5 +1,6 @@
 pub mod AnyBoard
 pub mod Busy
+pub mod Decimal
 pub mod Determined
 pub mod FieldByField
 pub mod FieldIsRun
@@ -9,10 +10,10 @@ pub mod HighFirst
 pub mod Keyed
 pub mod LastLine
 pub mod Laying
-pub mod LineRoom
 pub mod OneTurn
 pub mod RightSizes
 pub mod Seats
 pub mod Sleeping
 pub mod TooLong
 pub mod Turns
+pub mod Writing

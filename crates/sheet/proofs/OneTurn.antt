@@ -28,11 +28,11 @@ use Rattle.engine.proofs.Keeps.{turn_accepted}
 use Rattle.engine.proofs.Numbers.{TurnDone, turn_done_lem}
 use Rattle.engine.proofs.Turns.{answering, tried_is_turned}
 use Rattle.sheet.specs.Play.{desk_of, seat_at, ended_line, turn_listed, turn_at_desk}
-use Rattle.pen.specs.Written.{Wrote}
+use Rattle.sheet.specs.Written.{Wrote}
 use Rattle.sheet.specs.Promises.{Takes}
 use Rattle.sheet.specs.Room.{busy, ended_room}
 use Rattle.sheet.proofs.Busy.{busy_one, busy_set, busy_turn}
-use Rattle.pen.proofs.Writing.{wrote_none}
+use Rattle.sheet.proofs.Writing.{wrote_none}
 
 -- what was tried is the engine's turn, with its answer
 try_done :

@@ -9,7 +9,7 @@ use Rattle.sheet.specs.declared.Took.{Took}
 use Rattle.sheet.specs.declared.Played.{Played}
 use Rattle.sheet.specs.Play.{Desk, desk_of, Outcome, turn_at_desk}
 use Rattle.sheet.specs.Listing.{Told, Ending, played, words_asked, listing}
-use Rattle.pen.specs.Written.{Wrote}
+use Rattle.sheet.specs.Written.{Wrote}
 use Rattle.sheet.specs.Room.{longest, due}
 
 -- a turn at the desk: the buffer before and after, the board and the desk that are left, the length of the listing, and the number

@@ -1,4 +1,6 @@
 // A sheet, field by field, and the listing that it comes to.
+#![tactic(auto)]
+
 ghost use Rattle.std.specs.Prelude.{◌≡◌, [], ◌+◌, ◌≤◌, length};
 ghost use Rattle.turn.specs.Turn.{after};
 ghost use Rattle.sheet.specs.Play.{shut_floor, shut_desk, opened_desk, outcome};

@@ -2,7 +2,7 @@
 ghost use Rattle.std.specs.Prelude.{◌≡◌, length, ◌+◌, ◌≤◌};
 ghost use Rattle.sheet.specs.Play.{seat_at, asked, ended_line};
 ghost use Rattle.sheet.specs.Promises.{Takes};
-ghost use Rattle.pen.specs.Written.{Wrote};
+ghost use Rattle.sheet.specs.Written.{Wrote};
 ghost use Rattle.sheet.specs.Room.{ended_room, TurnFits};
 
 use crate::{Call, Took, line};

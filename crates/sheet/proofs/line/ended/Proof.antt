@@ -1,33 +1,22 @@
 -- The letter, the four numbers, each with its space, and the end of the line. Assumes nothing.
 use borrow.Author.Rules.{rules}
 use native.Mathlib.Omega.{arith}
-use Rattle.pen.proofs.Putting.{puts_then, puts_all}
-use Rattle.sheet.proofs.LineRoom.{end_room}
+use Rattle.sheet.proofs.Writing.{wrote_then}
 use Rattle.sheet.proofs.line.ended.Statement.{statement}
 use Rattle.sheet.proofs.line.ended.Tie as tie
 
 returns : tie.Need-returns
-returns c =
-    let b = c.before.before in
-    let d4 = b.before.before.before.before in
-    let d3 = d4.before.before.before.before.before in
-    let d2 = d3.before.before.before.before.before in
-    let d1 = d2.before.before.before.before.before in
-    let s = d1.before.before.before.before in
-    let room = end_room s.args.turn s.args.worker s.args.kind s.args.answer s.requires.0 (omega arith) (omega arith) (omega arith) in
-    let line =
-    puts_all
-    (puts_then d1.told.ensures
-    (puts_then d2.told2.ensures (puts_then d3.told3.ensures (puts_then d4.told4.ensures b.byte.ensures))))
-    (omega (arith, room, s.requires.1)) in
-    (line, omega (arith, line.place, room))
+returns c = (
+  wrote_then c.put-letter.ensures
+      (wrote_then c.number-first.ensures.0
+      (wrote_then c.number-second.ensures.0
+      (wrote_then c.number-third.ensures.0 (wrote_then c.number-fourth.ensures.0 c.put.ensures)))),
+  omega arith,
+)
 
 pub ended_spec : {M : Type 1} → statement M
 ended_spec =
     tie.close
     (tie.spec
-    (λ c. search rules) (λ c κs. search rules)
-    (λ c. search rules) (λ c κs. search rules)
-    (λ c. search rules) (λ c κs. search rules)
-    (λ c. search rules) (λ c κs. search rules)
-    (λ c κs. search rules) (λ c. search rules) returns)
+    (λ c κs. search rules) (λ c κs. search rules) (λ c κs. search rules) (λ c κs. search rules) (λ c κs. search rules) (λ c κs. search rules)
+    (λ c. search rules) returns)

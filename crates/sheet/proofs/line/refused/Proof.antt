@@ -1,24 +1,15 @@
 -- The letter, the two numbers, each with its space, and the end of the line. Assumes nothing.
 use borrow.Author.Rules.{rules}
-use native.Mathlib.Omega.{arith}
-use Rattle.pen.proofs.Putting.{puts_then, puts_all}
-use Rattle.sheet.proofs.LineRoom.{refusal_room}
+use Rattle.sheet.proofs.Writing.{wrote_then}
 use Rattle.sheet.proofs.line.refused.Statement.{statement}
 use Rattle.sheet.proofs.line.refused.Tie as tie
 
 returns : tie.Need-returns
 returns c =
-    let b = c.before.before in
-    let d2 = b.before.before.before.before in
-    let d1 = d2.before.before.before.before.before in
-    let s = d1.before.before.before.before in
-    let room = refusal_room s.args.why s.args.offset (omega arith) s.requires.0 in
-    puts_all (puts_then d1.told.ensures (puts_then d2.told2.ensures b.byte.ensures)) (omega (arith, room, s.requires.1))
+    wrote_then c.put-letter.ensures
+    (wrote_then c.number-first.ensures.0 (wrote_then c.number-second.ensures.0 c.put.ensures))
 
 pub refused_spec : {M : Type 1} → statement M
 refused_spec =
     tie.close
-    (tie.spec
-    (λ c. search rules) (λ c κs. search rules)
-    (λ c. search rules) (λ c κs. search rules)
-    (λ c κs. search rules) (λ c. search rules) returns)
+    (tie.spec (λ c κs. search rules) (λ c κs. search rules) (λ c κs. search rules) (λ c κs. search rules) (λ c. search rules) returns)

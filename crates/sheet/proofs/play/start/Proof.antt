@@ -4,25 +4,20 @@ use Rattle.sheet.specs.Play.{asked}
 use Rattle.sheet.proofs.play.start.Statement.{statement}
 use Rattle.sheet.proofs.play.start.Tie as tie
 
-returns : tie.Need-returns
+returns : tie.Need-returns-then-call-eq-LOOK
 unfolding asked
 returns c =
-    let t = c.before in
-    rw (eq-eqb _ 1 t.if1.true) (rw t.before.before.seat-of.ensures at c.start-look.ensures.whole)
+    rw (eq-eqb _ 1 c.if-call-eq-LOOK.true) (rw c.seat_of-seat.ensures at c.start_look.ensures.whole)
 
-returns_2 : tie.Need-returns-2
+returns_2 : tie.Need-returns-then-call-eq-INSERT
 unfolding asked
 returns_2 c =
-    let t = c.before in
-    let e = t.before.before in
-    rw (ne_eqb _ 1 e.if1.false, eq-eqb _ 2 t.if2.true) (rw e.before.before.seat-of.ensures at c.start-insert.ensures.whole)
+    rw (ne_eqb _ 1 c.if-call-eq-LOOK.false, eq-eqb _ 2 c.if-call-eq-INSERT.true) (rw c.seat_of-seat.ensures at c.start_insert.ensures.whole)
 
-returns_3 : tie.Need-returns-3
+returns_3 : tie.Need-returns
 unfolding asked
 returns_3 c =
-    let t = c.before in
-    let e = t.before.before in
-    rw (ne_eqb _ 1 e.if1.false, ne_eqb _ 2 t.if2.false) (rw e.before.before.seat-of.ensures at c.start-remove.ensures.whole)
+    rw (ne_eqb _ 1 c.if-call-eq-LOOK.false, ne_eqb _ 2 c.if-call-eq-INSERT.false) (rw c.seat_of-seat.ensures at c.start_remove.ensures.whole)
 
 pub start_spec : {M : Type 1} → statement M
 start_spec =

@@ -1,14 +1,14 @@
 use borrow.Author.Rules.{rules}
 use native.Mathlib.Omega.{arith}
-use Rattle.pen.proofs.Writing.{wrote_none}
+use Rattle.sheet.proofs.Writing.{wrote_none}
 use Rattle.sheet.proofs.play.told.Statement.{statement}
 use Rattle.sheet.proofs.play.told.Tie as tie
 
-returns : tie.Need-returns
-returns c = rw c.enum_told.given.1 (wrote_none _ _, omega arith)
+returns : tie.Need-returns-in-GoesOn
+returns c = rw c.in-GoesOn.is (wrote_none _ _, omega arith)
 
-returns_2 : tie.Need-returns-2
-returns_2 c = let e = c.before.before in rw e.before.before.before.progress.given.1 e.ended.ensures
+returns_2 : tie.Need-returns-in-Ended
+returns_2 c = rw c.in-Ended.is c.ended.ensures
 
 pub told_spec : {M : Type 1} → statement M
 told_spec =

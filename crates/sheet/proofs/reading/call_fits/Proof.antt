@@ -11,8 +11,8 @@ unfolding call_fits
 call_fits_spec =
     tie.close
     (tie.spec
-    (λ c. key_1 _ _ _ _ _ _ c.match.keys1 refl)
-    (λ c. key_2 _ _ _ _ _ _ c.before.match.keys2 (rw (eq-eqb c.before.before.args.length 14 c.if1.true)))
-    (λ c. key_2 _ _ _ _ _ _ c.before.match.keys2 (rw (ne_eqb c.before.before.args.length 14 c.if1.false)))
-    (λ c. key_3 _ _ _ _ _ _ c.match.keys3 refl)
-    (λ c. key_none _ _ _ _ _ _ c.match.rest refl))
+    (λ c. key_1 _ _ _ _ _ _ c.in-1.is refl)
+    (λ c. key_2 _ _ _ _ _ _ c.in-2.is (rw (eq-eqb c.args.length 14 c.if-length-eq14.true)))
+    (λ c. key_2 _ _ _ _ _ _ c.in-2.is (rw (ne_eqb c.args.length 14 c.if-length-eq14.false)))
+    (λ c. key_3 _ _ _ _ _ _ c.in-3.is refl)
+    (λ c. key_none _ _ _ _ _ _ c.in_default.in_default-own.rest refl))

@@ -4,46 +4,41 @@ use Prim.Native.Nat.{◌+◌}
 use mathlib.Core.Path.{◌≡◌, sym, ◌∙◌}
 use mathlib.Core.Bool.{true}
 use native.Mathlib.Omega.{arith}
-use borrow.Author.Tests.{ne_eqb, not-true, not-false}
+use borrow.Author.Tests.{ne_eqb}
 use Rattle.mark.proofs.Choices.{choices}
 use Rattle.sheet.specs.Fields.{byte_at, call_fits, calling_at}
 use Rattle.sheet.proofs.Fitting.{short_fits_not}
 use Rattle.sheet.proofs.reading.calling.Statement.{statement}
 use Rattle.sheet.proofs.reading.calling.Tie as tie
 
-returns_2 : tie.Need-returns-2
+returns_2 : tie.Need-returns-then-length-lt10
 unfolding calling_at
 returns_2 c =
-    let a = c.before.before.before.args in
+    let a = c.args in
     rw (ne_eqb a.at 0 (omega arith), short_fits_not (byte_at a.sheet.now (a.at + 4)) a.length (omega arith))
 
-returns_3 : tie.Need-returns-3
+returns_3 : tie.Need-returns-then-not-call_fits
 unfolding calling_at
 returns_3 c =
-    let f = c.before in
-    let a = f.before.before.before.before.before.args in
-    rw (ne_eqb a.at 0 (omega arith), sym f.call_fits.ensures ∙ not-true _ c.if3.true)
+    let a = c.args in
+    rw (ne_eqb a.at 0 (omega arith), sym c.call_fits.ensures ∙ c.if-not-call_fits.true)
 
 -- the call's test has let it through
 fits :
-    (c : tie.Else3)
-    → let a = c.before.before.before.before.before.before.args in
+    (c : tie.Else-not-call_fits)
+    → let a = c.args in
     call_fits (byte_at a.sheet.now (a.at + 4)) a.length ≡ true
-fits c = sym c.before.call_fits.ensures ∙ not-false _ c.if3.false
+fits c = sym c.call_fits.ensures ∙ c.if-not-call_fits.false
 
 ticket_requires : tie.Need-ticket-requires
 ticket_requires c κs =
-    let t = c.before in
-    (t.before.before.before.before.before.before.requires, fits t)
+    (c.requires, fits c.before)
 
-returns_4 : tie.Need-returns-4
+returns_4 : tie.Need-returns
 unfolding calling_at
 returns_4 c =
-    let k = c.before in
-    let n = k.before in
-    let t = n.before in
-    let a = t.before.before.before.before.before.before.args in
-    rw (ne_eqb a.at 0 (omega arith), fits t, n.number.ensures.0, k.ticket.ensures)
+    let a = c.args in
+    rw (ne_eqb a.at 0 (omega arith), fits c.before.before.before, c.number.ensures.0, c.ticket.ensures)
 
 pub calling_spec : {M : Type 1} → statement M
 unfolding calling_at

@@ -9,16 +9,15 @@ use Rattle.sheet.specs.Fields.{opening_at}
 use Rattle.sheet.proofs.reading.opening.Statement.{statement}
 use Rattle.sheet.proofs.reading.opening.Tie as tie
 
-cast_t9 : tie.Need-overflow-cast-t9
-cast_t9 c = omega (arith, c.shared-slice-known2.given (c.before.before.before.before.args.at + 3))
+cast_t9 : tie.Need-overflow_cast-plan
+cast_t9 c = omega (arith, c.shared_slice_known-2-1.given (c.args.at + 3))
 
-returns_3 : tie.Need-returns-3
+returns_3 : tie.Need-returns
 unfolding opening_at
 returns_3 c =
-    let n = c.before in
-    let a = n.before.before.before.before.before.args in
+    let a = c.args in
     let end : a.at + 10 ≡ a.at + 3 + a.length = omega arith in
-    rw (eq-eqb a.at 0 (omega arith), eq-eqb a.length 7 (omega arith), n.number.ensures.0, c.number2.ensures.0, end)
+    rw (eq-eqb a.at 0 (omega arith), eq-eqb a.length 7 (omega arith), c.number.ensures.0, c.number-2.ensures.0, end)
 
 pub opening_spec : {M : Type 1} → statement M
 unfolding opening_at
