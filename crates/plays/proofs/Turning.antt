@@ -47,7 +47,7 @@ pub turn_stop :
 unfolding turn_at_desk
 turn_stop i s =
     let x = turn_call s.words (seat_at s.handed.floor i) (record_of s.handed i) in
-    listed_stop i _ x.words x.handed.worker x.handed.answer s.handed
+    listed_stop i (record_of s.handed i) x.words x.handed.worker x.handed.answer s.handed
     ∙ turn_number_lem s.words (seat_at s.handed.floor i) (record_of s.handed i)
 
 -- a turn that is not refused is the table's
