@@ -11,9 +11,7 @@ use Rattle.engine.specs.declared.Totals.{Totals}
 use Rattle.engine.specs.declared.Counted.{Counted}
 use Rattle.engine.specs.declared.Counted.TheVariants.{Refusal, Lots}
 use Rattle.hall.specs.declared.Totalled.{Totalled}
-use Rattle.hall.specs.declared.Totalled.TheVariants as Totalled
 use Rattle.hall.specs.declared.Next.{Next}
-use Rattle.hall.specs.declared.Next.TheVariants as Next
 use Rattle.floor.specs.declared.Outcome.{Outcome}
 use Rattle.floor.specs.declared.ReportOutcome.{ReportOutcome}
 use Rattle.floor.specs.declared.TurnOutcome.{TurnOutcome}

@@ -10,7 +10,7 @@ use lib.ListN.{length}
 use borrow.Author.Tests.{eqb-true, not-false}
 use Rattle.mark.proofs.Choices.{by_cases, passes}
 use Rattle.turn.specs.declared.Worker.{Worker}
-use Rattle.turn.specs.Turn.{Answer, Refused, Done, after, number_of}
+use Rattle.turn.specs.Turn.{Answer, Refused, Done, number_of}
 use Rattle.engine.specs.declared.Floor.{Floor}
 use Rattle.engine.specs.declared.Seat.{Seat}
 use Rattle.engine.specs.Refusals.{wrong_sizes, open_number, run_number, each_number, turn_number, retire_number}

@@ -12,7 +12,6 @@ use Rattle.bits.specs.Seek.{seek}
 use Rattle.bits.specs.Bits.{is_set, first_from}
 use Rattle.bits.proofs.Seeks.{seek_ge, seek_same, seek_further, seek_on}
 use Rattle.hall.specs.declared.Next.{Next}
-use Rattle.hall.specs.declared.Next.TheVariants as Next
 use Rattle.hall.specs.Index.{bit_in}
 use Rattle.hall.specs.Calls.{first_of}
 

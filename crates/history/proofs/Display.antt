@@ -9,7 +9,6 @@ use Rattle.mark.proofs.Choices.{not_both}
 use Rattle.engine.specs.Board.{lots_on}
 use Rattle.hall.specs.declared.Totalled.TheVariants.{Slots}
 use Rattle.hall.specs.declared.Next.{Next}
-use Rattle.hall.specs.declared.Next.TheVariants as Next
 use Rattle.hall.specs.Calls.{total_call, next_call}
 use Rattle.hall.specs.Reading.{Reads, occupied_at, next_on, IsNext}
 use Rattle.hall.proofs.Reading.{reads_next, first_is}

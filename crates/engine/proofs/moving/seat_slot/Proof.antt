@@ -5,7 +5,7 @@ use mathlib.Core.Bool.{false}
 use mathlib.Core.Path.{sym, subst, ◌∙◌}
 use native.Mathlib.Omega.{arith}
 use lib.ListN.{set, length-set}
-use Rattle.engine.specs.Seating.{lot_word, SeatsMore, taken}
+use Rattle.engine.specs.Seating.{lot_word, SeatsMore}
 use Rattle.engine.proofs.Seating.{slot_empty, slot_lacks, slot_next}
 use Rattle.engine.proofs.moving.seat_slot.Statement.{statement}
 use Rattle.engine.proofs.moving.seat_slot.Tie as tie

@@ -10,7 +10,6 @@ use borrow.Author.Tests.{le-ltb}
 use Rattle.bits.specs.Seek.{seek}
 use Rattle.bits.proofs.Seeks.{seek_ge}
 use Rattle.hall.specs.declared.Next.{Next}
-use Rattle.hall.specs.declared.Next.TheVariants as Next
 use Rattle.hall.specs.Index.{bit_in}
 use Rattle.hall.proofs.Searching.{first_wide, first_past, word_has, word_none}
 use Rattle.hall.proofs.display.next.Statement.{statement}

@@ -1,7 +1,4 @@
-use borrow.Author.Rules.{rules}
-use mathlib.Core.Path.{◌≡◌}
 use native.Mathlib.Omega.{arith}
-use lib.ListN.{length}
 use borrow.Author.Tests.{ne_eqb}
 use Rattle.mark.proofs.Choices.{choices}
 use Rattle.turn.proofs.retire.vacate.Goals as goal

@@ -1,5 +1,4 @@
-use Rattle.std.proofs.Common.{ℕ, ◌+◌, ◌-◌, sym, ◌∙◌}
-use Rattle.turn.specs.Asleep.{slept}
+use Rattle.std.proofs.Common.{◌+◌, ◌-◌, sym, ◌∙◌}
 use Rattle.walks.specs.Walk.{walks}
 use Rattle.walks.proofs.Bounds.{room_left, begun_fit, sum_fit}
 use Rattle.walks.proofs.Walking.{walk_ends, walk_cut, walk_on, idle_slept, begun_busy}
