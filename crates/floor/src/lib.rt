@@ -90,8 +90,7 @@ pub struct NextOutcome {
 }
 
 // §1.1: opens a floor. `floor` is the one that stood before, and comes back where the opening is refused.
-#[unsafe(no_mangle)]
-pub extern "C" fn desk_open_floor(
+pub fn desk_open_floor(
     board: &mut [u64],
     records: &mut [Worker],
     index: &mut [u64],
@@ -111,8 +110,7 @@ pub extern "C" fn desk_open_floor(
 }
 
 // §1.1: starts a look on a worker.
-#[unsafe(no_mangle)]
-pub extern "C" fn desk_start_look(
+pub fn desk_start_look(
     board: &[u64],
     records: &mut [Worker],
     floor: Floor,
@@ -137,8 +135,7 @@ pub extern "C" fn desk_start_look(
 }
 
 // §1.1: starts an insert on a worker.
-#[unsafe(no_mangle)]
-pub extern "C" fn desk_start_insert(
+pub fn desk_start_insert(
     board: &[u64],
     records: &mut [Worker],
     floor: Floor,
@@ -163,8 +160,7 @@ pub extern "C" fn desk_start_insert(
 }
 
 // §1.1: starts a remove on a worker.
-#[unsafe(no_mangle)]
-pub extern "C" fn desk_start_remove(
+pub fn desk_start_remove(
     board: &[u64],
     records: &mut [Worker],
     floor: Floor,
@@ -189,8 +185,7 @@ pub extern "C" fn desk_start_remove(
 }
 
 // §1.1: gives a worker one turn.
-#[unsafe(no_mangle)]
-pub extern "C" fn desk_turn(
+pub fn desk_turn(
     board: &mut [u64],
     records: &mut [Worker],
     index: &mut [u64],
@@ -204,8 +199,7 @@ pub extern "C" fn desk_turn(
 }
 
 // §1.1: retires a worker; the number of refusal, or 0.
-#[unsafe(no_mangle)]
-pub extern "C" fn desk_retire(
+pub fn desk_retire(
     board: &mut [u64],
     records: &mut [Worker],
     index: &mut [u64],
@@ -227,8 +221,7 @@ pub extern "C" fn desk_retire(
 }
 
 // §1.1: runs a list of turns, each a worker's number, until one is refused.
-#[unsafe(no_mangle)]
-pub extern "C" fn desk_run(
+pub fn desk_run(
     board: &mut [u64],
     records: &mut [Worker],
     index: &mut [u64],
@@ -252,8 +245,7 @@ pub extern "C" fn desk_run(
 }
 
 // §1.1, §22.1: moves the lots to a second board, of so many buckets.
-#[unsafe(no_mangle)]
-pub extern "C" fn desk_move(
+pub fn desk_move(
     old: &[u64],
     board: &mut [u64],
     records: &[Worker],
@@ -280,8 +272,7 @@ pub fn show(board: &[u64], floor: Floor, lot: u64) -> &[u64]
 }
 
 // Which words those are, for C, to which no reference can be handed back.
-#[unsafe(no_mangle)]
-pub extern "C" fn desk_show(board: &[u64], floor: Floor, lot: u64) -> Part
+pub fn desk_show(board: &[u64], floor: Floor, lot: u64) -> Part
     ensures { PartShown board.now floor lot result }
 {
     let part = engine::show(board, floor, lot);
@@ -292,16 +283,14 @@ pub extern "C" fn desk_show(board: &[u64], floor: Floor, lot: u64) -> Part
 }
 
 // §2.8: the number of refusal of a show on the same arguments, or 0.
-#[unsafe(no_mangle)]
-pub extern "C" fn desk_show_refusal(board: &[u64], floor: Floor, lot: u64) -> u8
+pub fn desk_show_refusal(board: &[u64], floor: Floor, lot: u64) -> u8
     ensures { ShowTested board.now floor lot result }
 {
     engine::show_refusal(board, floor, lot)
 }
 
 // §1.1: counts the lots on the board.
-#[unsafe(no_mangle)]
-pub extern "C" fn desk_count(board: &[u64], floor: Floor) -> CountOutcome
+pub fn desk_count(board: &[u64], floor: Floor) -> CountOutcome
     ensures { CountLeft board.now floor result }
 {
     let counted = engine::count(board, floor);
@@ -309,8 +298,7 @@ pub extern "C" fn desk_count(board: &[u64], floor: Floor) -> CountOutcome
 }
 
 // §1.1, §21.3: the display asks for the number of valid slots.
-#[unsafe(no_mangle)]
-pub extern "C" fn desk_total(board: &[u64], index: &[u64], floor: Floor) -> TotalOutcome
+pub fn desk_total(board: &[u64], index: &[u64], floor: Floor) -> TotalOutcome
     ensures { TotalLeft board.now index.now floor result }
 {
     let totalled = hall::total(board, index, floor);
@@ -318,13 +306,7 @@ pub extern "C" fn desk_total(board: &[u64], index: &[u64], floor: Floor) -> Tota
 }
 
 // §1.1, §21.4: the display asks for the first occupied bucket at or after one.
-#[unsafe(no_mangle)]
-pub extern "C" fn desk_next_occupied(
-    board: &[u64],
-    index: &[u64],
-    floor: Floor,
-    from: usize,
-) -> NextOutcome
+pub fn desk_next_occupied(board: &[u64], index: &[u64], floor: Floor, from: usize) -> NextOutcome
     ensures { NextLeft board.now index.now floor from result }
 {
     let next = hall::next_occupied(board, index, floor, from);

@@ -25,8 +25,7 @@ fn mark_shift(slot: u8) -> u32
 }
 
 // §14.5: a mark is read by a shift and a mask.
-#[unsafe(no_mangle)]
-pub extern "C" fn mark_of(word: u64, slot: u8) -> u8
+pub fn mark_of(word: u64, slot: u8) -> u8
     ensures { result ≡ mark_of word slot }
 {
     if slot >= NO_SLOT {
@@ -47,8 +46,7 @@ pub fn with_mark(word: u64, slot: u8, mark: u8) -> u64
 }
 
 // §2.5: the version is the low half.
-#[unsafe(no_mangle)]
-pub extern "C" fn version_of(word: u64) -> u32
+pub fn version_of(word: u64) -> u32
     ensures { result ≡ version word }
 {
     (word & 4294967295) as u32

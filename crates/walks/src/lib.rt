@@ -67,13 +67,7 @@ pub fn all_orders(board: &[u64], floor: Floor, class: Class, depth: usize) -> Wa
 }
 
 // §1.1, §18.3, §14.8: so over the lent list.
-#[unsafe(no_mangle)]
-pub extern "C" fn desk_orders(
-    board: &[u64],
-    records: &[Worker],
-    floor: Floor,
-    depth: usize,
-) -> OrdersOutcome
+pub fn desk_orders(board: &[u64], records: &[Worker], floor: Floor, depth: usize) -> OrdersOutcome
     ensures { OrdersLeft board.now records.now floor depth result }
 {
     let listed = records.len();
