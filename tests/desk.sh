@@ -82,7 +82,7 @@ orders_usage='usage: ./orders \[DEPTH\] \[FILE\]'
 
 # a kit whose loader runs a program as a script
 kit=$room/kit
-mkdir -p "$kit/docs" "$kit/toolchain/lib" "$room/rt" "$room/tools" "$room/machine" "$room/copies"
+mkdir -p "$kit/toolchain/lib" "$room/rt" "$room/tools" "$room/machine" "$room/copies"
 printf '#!/bin/sh\nexec sh "$3"\n' >"$kit/toolchain/lib/ld-linux-x86-64.so.2"
 
 # the programs tell what they are given, behind the byte that a sheet begins with, and what a proved one may say
@@ -105,34 +105,40 @@ failure) echo 'half of it' && exit 3 ;;
 esac
 END
 
-# rt as FAKE_RT asks for it: it makes the program, at once or when the file `go` is there, or refuses, or finds that it
+# rt as FAKE_RT asks for it, in the program's crate: it makes the program and runs it, at once or when the file `go` is there, or refuses, or
 # writes something else than is stored, or never comes to its end
 cat >"$room/rt/rt" <<END
 #!/bin/sh
-case \$1 in doc) echo $kit/docs/START-HERE.md && exit ;; esac
-echo "\$@" >>calls
+case \$1 in doc) echo $kit/START-HERE.md && exit ;; esac
+top=../..
+name=\${PWD##*/}
+echo "\$1 \$name" >>\$top/calls
+mkdir -p out
 case \$FAKE_RT in
 endless)
-  echo half >target/bin/\$2 && chmod +x target/bin/\$2
+  echo half >out/\$name && chmod +x out/\$name
   sleep 300 &
-  echo "\$\$ \$!" >pids
+  echo "\$\$ \$!" >\$top/pids
   wait
   ;;
-refuse) echo "rt: \$2 NOT PROVED" && exit 1 ;;
+refuse) echo "rt: \$name NOT PROVED" >&2 && exit 1 ;;
 slow)
-  : >slow
+  : >\$top/slow
   for try in 0 1 2 3 4 5 6 7 8 9; do
-    [ -e go ] || sleep 1
+    [ -e \$top/go ] || sleep 1
   done
   ;;
 esac
-for crate in mark sheet \$2; do echo "rt: \$crate proved (1 s)"; done
-cp $room/stand-in target/bin/\$2 && chmod +x target/bin/\$2
-case \$FAKE_RT in flawed) echo "rt: \$2 proved, and its run FAILED (0 s)" && exit 1 ;; esac
+for crate in mark sheet \$name; do
+  printf '%s\n' "rt: chose --jobs 1 for \$crate" "crate \$crate: modules loaded=0 checked=1" 'logic=proved functions=1' >&2
+done
+cp $room/stand-in out/\$name && chmod +x out/\$name
+echo "rt: running out/\$name; to give it other input, run that file yourself" >&2
+case \$FAKE_RT in flawed) echo something else ;; *) out/\$name ;; esac
 END
 
 # all that the scripts use but rt
-for command in bash sh env readlink dirname basename sed grep awk find date touch head tail od cat cp mv rm mktemp mkdir mkfifo flock sleep wc uname git chmod; do
+for command in bash sh env readlink dirname basename sed grep awk find date touch head tail od cat cp mv rm cmp mktemp mkdir mkfifo flock sleep wc uname git chmod; do
   path=$(command -v "$command") || continue
   ln -s "$path" "$room/tools/$command"
 done
@@ -154,6 +160,8 @@ copy_to() {
   for crate in mark sheet rostrum board scribe orders; do
     mkdir -p "$to/crates/$crate/src"
     : >"$to/crates/$crate/src/main.rt"
+    echo stored >"$to/crates/$crate/stdin"
+    echo "$crate: stored" >"$to/crates/$crate/stdout"
   done
   echo "$kit" >"$to/target/kit"
   for crate in "$@"; do
@@ -209,12 +217,13 @@ interrupt() {
   status=0
   wait "$started" 2>/dev/null || status=$?
   started=
-  judge "$what" "$((128 + $(kill -l "$signal")))" '' "$building"$'\n'"$first"$'\nrostrum: the build was interrupted; .*'
+  judge "$what" "$((128 + $(kill -l "$signal")))" '' "$building"$'\nrostrum: the build was interrupted; .*'
   for pid in $(<pids); do
     await is_gone "$pid" || {
       fail "$what: something runs on"
       kill -KILL "$pid"
     }
   done
-  [ -x target/bin/rostrum ] || fail "$what: nothing is half made, which was to be tried"
+  [ -x crates/rostrum/out/rostrum ] || fail "$what: nothing is half made, which was to be tried"
+  [ ! -e target/bin/rostrum ] || fail "$what: what is half made is taken"
 }

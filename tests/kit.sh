@@ -31,27 +31,23 @@ find_kit_folder() {
     return
   fi
   need_rt "$1"
-  if guide=$(rt doc 2>/dev/null); then
-    kit=$(cd "$(dirname "$guide")/.." && pwd)
-  else
-    # a kit without a part for this machine says nothing of its guide
-    kit=${RATTLE_HOME:-$(dirname "$(dirname "$(readlink -f "$(command -v rt)")")")}
-  fi
+  # its first page lies in it
+  guide=$(rt doc) || missing "$1" "'rt doc' does not tell where the kit is"
+  kit=$(cd "$(dirname "$guide")" && pwd)
   [ "$kit" = "$known" ] || [ ! -d "$here/target" ] || { printf '%s\n' "$kit" >"$record"; } 2>/dev/null || true
 }
 
-# sets `tools`, the kit's programs for this machine; `libc`, its C library, for x86-64; and `emulator`, which runs x86-64 programs where
-# this machine is another, and is empty where it is not. The word is the name of the script, for what it says.
+# sets `tools`, the kit's compiler and linker; `libc`, its C library; and `emulator`, which runs x86-64 programs where this machine is another,
+# and is empty where it is not. All of the kit is for x86-64. The word is the name of the script, for what it says.
 find_kit() {
   local machine
   find_kit_folder "$1"
   machine=$(uname -m)
-  tools=$kit/on/$machine/toolchain/bin
+  tools=$kit/toolchain/bin
   libc=$kit/toolchain/lib
   emulator=
   if [ "$machine" != x86_64 ]; then
-    emulator=$tools/qemu-x86_64
-    [ -x "$emulator" ] || missing "$1" "this machine is $machine, and the kit's emulator for x86-64 is not there: $emulator"
+    emulator=$(command -v qemu-x86_64) || missing "$1" "this machine is $machine, and the emulator qemu-x86_64 is not on the PATH"
   fi
   [ -x "$libc/ld-linux-x86-64.so.2" ] || missing "$1" "the kit's loader is not there: $libc/ld-linux-x86-64.so.2"
 }
@@ -61,17 +57,20 @@ find_kit() {
 # the crates of this repository that a crate is proved with: those that it depends on, and itself
 crates_of() {
   local name
-  for name in $(sed -n "s/^$1://p" "$here/crates.txt") "$1"; do
+  for name in $(sed -n "s/^$1\( staticlib\)\{0,1\}://p" "$here/crates.txt") "$1"; do
     [ ! -d "$here/crates/$name" ] || printf '%s\n' "$name"
   done
 }
 
-# whether a file is missing, half made, or older than the sources of a crate and of those that it depends on
+# whether a file is missing, or older than the sources of a crate and of those that it depends on
 is_old() {
-  local file=$1 sources=("$here/crates.txt") name
-  [ -e "$file" ] && [ ! -e "$file.unfinished" ] || return 0
+  local file=$1 sources=("$here/crates.txt") name part
+  [ -e "$file" ] || return 0
   for name in $(crates_of "$2"); do
-    sources+=("$here/crates/$name")
+    for part in "$here/crates/$name"/*; do
+      # what rt keeps there is no source
+      [ "${part##*/}" = out ] || sources+=("$part")
+    done
   done
   [ -n "$(find "${sources[@]}" -newer "$file" -print -quit)" ]
 }
@@ -106,13 +105,6 @@ free_lock() {
   exec {lock}>&-
 }
 
-# the words, with 'and' between them
-joined() {
-  printf '%s' "$1"
-  shift
-  [ $# -eq 0 ] || printf ' and %s' "$@"
-}
-
 # a time in words
 minutes() {
   if [ "$1" -lt 60 ]; then
@@ -123,24 +115,39 @@ minutes() {
 }
 
 # Tells how far the build is: on a terminal in one line that is written again and again, else in a line for each step. Uses the variables of
-# `build`: a crate is being checked where it is not proved and all that it depends on is.
+# `build`: rt checks one crate after another, and says which only when it comes to it.
 tell_progress() {
-  local crate other now=() line
-  for crate in "${crates[@]}"; do
-    [[ $proved != *" $crate "* ]] || continue
-    for other in $(crates_of "$crate"); do
-      [ "$other" = "$crate" ] || [[ $proved == *" $other "* ]] || continue 2
-    done
-    now+=("$crate")
-  done
-  [ "${#now[@]}" -gt 0 ] || return 0
-  line="$name: $(wc -w <<<"$proved") of ${#crates[@]} crates are proved, now $(joined "${now[@]}")"
+  local line
+  [ -n "$now" ] || return 0
+  line="$name: $(wc -w <<<"$proved") of ${#crates[@]} crates are proved, now $now"
   if [ -t 2 ]; then
     printf '\r%s, %s\033[K' "$line" "$(minutes $((SECONDS - began)))" >&2
   elif [ "$line" != "$told" ]; then
     printf '%s\n' "$line" >&2
   fi
   told=$line
+}
+
+# Takes a line of what rt says. It names a crate when it begins to check it, and at the end of that tells what was looked at, and then that it
+# is proved; of a crate that was proved before it says nothing, so what a crate depends on counts with it.
+take_line() {
+  if [[ $1 =~ ^rt:\ chose\ --jobs\ [0-9]+\ for\ ([A-Za-z0-9_]+)$ ]]; then
+    now=${BASH_REMATCH[1]}
+    # shellcheck disable=SC2046 # names of crates are words
+    count_proved $(crates_of "$now" | grep -vxF "$now")
+  elif [[ $1 =~ ^crate\ ([A-Za-z0-9_]+):\  ]]; then
+    now=${BASH_REMATCH[1]}
+  elif [[ $1 == logic=proved\ * ]]; then
+    count_proved "$now"
+    now=
+  fi
+}
+
+count_proved() {
+  local crate
+  for crate in "$@"; do
+    [[ $proved == *" $crate "* ]] || proved+="$crate "
+  done
 }
 
 # reads what rt says, into `said`, to its end
@@ -151,7 +158,7 @@ follow_build() {
       line=$part$line
       part=
       said+=$line$'\n'
-      [[ ! $line =~ ^rt:\ ([A-Za-z0-9_]+)\ proved ]] || proved+="${BASH_REMATCH[1]} "
+      take_line "$line"
     elif [ $? -gt 128 ]; then
       part+=$line
       # in a shell of a shell: where the script itself is gone, nobody wants this
@@ -183,9 +190,10 @@ stop_build() {
   kill "-$1" "$BASHPID"
 }
 
-# Runs rt in a process group of its own, so that all of it can be ended, and sets `said`. The half-made file is known by the one beside it.
+# Has rt build a crate, in a process group of its own, so that all of it can be ended, and sets `said`. A program is run too, on its stored
+# input, and what it writes is beside it.
 run_rt() {
-  local folder builder='' pipe
+  local folder builder='' pipe input=/dev/null
   said=
   trap 'stop_build INT' INT
   trap 'stop_build TERM' TERM
@@ -193,9 +201,13 @@ run_rt() {
   folder=$(mktemp -d)
   mkfifo "$folder/pipe"
   mkdir -p "$(dirname "$file")"
-  : >"$file.unfinished"
+  [ ! -f "$here/crates/$crate/stdin" ] || input=$here/crates/$crate/stdin
   set -m
-  (cd "$here" && exec rt "$@") >"$folder/pipe" 2>&1 </dev/null &
+  if is_program "$crate"; then
+    (cd "$here/crates/$crate" && exec rt run) >"$file.wrote" 2>"$folder/pipe" <"$input" &
+  else
+    (cd "$here/crates/$crate" && exec rt lib) >"$folder/pipe" 2>&1 </dev/null &
+  fi
   builder=$!
   set +m
   exec {pipe}<"$folder/pipe"
@@ -207,12 +219,48 @@ run_rt() {
   trap - INT TERM HUP
 }
 
-# Proves and builds a file where it is not there, or is older than its sources: build NAME FILE CRATE VERB, NAME being the script's for what
-# it says, and VERB the word for rt. Sets `said`, what rt said, and its exit status `ended`.
+# whether a crate is a program, and no library
+is_program() {
+  [ -f "$here/crates/$1/src/main.rt" ]
+}
+
+# What a run of rt comes to: takes what it made, `made`, to its place, and sets `ended` to 0 where it is proved. Of a program sets `flaw` to 1
+# where its run ended otherwise than it should, or wrote something else than is stored: it is proved, and can be run to see why. It then stays
+# older than its sources, so that this is said each time.
+take_built() {
+  if is_program "$crate"; then
+    # after this line the status is the program's own
+    grep -q "^rt: running out/$crate;" <<<"$said" || return 0
+    if [ "$ended" -ne 0 ] || ! cmp -s "$file.wrote" "$here/crates/$crate/stdout"; then
+      flaw=1
+    fi
+    ended=0
+  fi
+  [ "$ended" -eq 0 ] || return 0
+  [ -f "$made" ] || {
+    said+="$name: rt has made no $made"$'\n'
+    ended=1
+    return 0
+  }
+  cp "$made" "$file.new"
+  mv "$file.new" "$file"
+  if [ "$flaw" -eq 0 ]; then
+    built_since "$start" "$file"
+    echo "$name: built, in $(minutes $((SECONDS - began)))" >&2
+  else
+    built_since 0 "$file"
+    echo "$name: what it writes of its stored input is not what is stored" >&2
+  fi
+}
+
+# Proves and builds a file where it is not there, or is older than its sources: build NAME FILE CRATE MADE, NAME being the script's for what
+# it says, and MADE the file of the crate's out/ that it becomes. Where it is built, sets `said`, what rt said, `ended`, which is 0 where
+# it is there, and `flaw`.
 build() {
-  local name=$1 file=$2 crate=$3 crates proved=' ' told='' began start
+  local name=$1 file=$2 crate=$3 made=$here/crates/$3/out/$4 crates proved=' ' now='' told='' began start
   said=
   ended=0
+  flaw=0
   is_old "$file" "$crate" || return 0
   need_rt "$name"
   take_lock "$name"
@@ -222,44 +270,28 @@ build() {
     echo "$name: proving and building it first, ${#crates[@]} crates, which takes some $(((${#crates[@]} + 2) / 3)) to ${#crates[@]} minutes; only once" >&2
     began=$SECONDS
     start=$(date +%s.%N)
-    tell_progress
-    run_rt "$4" "$crate"
-    if [ "$ended" -eq 0 ] && [ -e "$file" ]; then
-      built_since "$start" "$file"
-      rm -f "$file.unfinished"
-      echo "$name: built, in $(minutes $((SECONDS - began)))" >&2
-    fi
+    run_rt
+    take_built
+    rm -f "$file.wrote"
   fi
   free_lock
 }
 
-# Sets `words`, the command that runs a proved program, which is built first where it is old. Sets `flaw` to 1 where it is proved, but what it
-# writes of its stored input is not what is stored: it can then be run to see why.
+# Sets `words`, the command that runs a proved program, which is built first where it is old, and `flaw` (`take_built`).
 # shellcheck disable=SC2034 # both are for the script
 find_program() {
   local name=$1 program=$here/target/bin/$1
   find_kit "$name"
-  flaw=0
-  build "$name" "$program" "$name" check
-  if [ "$ended" -ne 0 ]; then
-    if grep -q "^rt: $name proved, and its run FAILED" <<<"$said"; then
-      # it stays older than its sources, so that this is said each time
-      echo "$name: what it writes of its stored input is not what is stored" >&2
-      built_since 0 "$program"
-      flaw=1
-    else
-      printf '%s' "$said" >&2
-      exit 1
-    fi
-  fi
-  [ -x "$program" ] || {
-    echo "$name: rt has made no $program; without the folder target it makes all anew" >&2
+  build "$name" "$program" "$name" "$name"
+  [ "$ended" -eq 0 ] || {
+    printf '%s' "$said" >&2
     exit 1
   }
   words=(${emulator:+"$emulator"} "$libc/ld-linux-x86-64.so.2" --library-path "$libc" "$program")
 }
 
-# prints where the archive of a crate is; it is proved and built first where it is not there, or is older than its sources.
+# prints where the archive of a crate is; it is proved and built first where it is not there, or is older than its sources. A crate that others
+# are built on is no archive itself: that of floor is made of floor_c, which has its exports.
 # DESK_ARCHIVE names one for floor that is taken as it is, WALKS_ARCHIVE one for walks, which has all orders, and MARK_ARCHIVE one for mark.
 archive_of() {
   local crate=$1 archive=$here/target/staticlib/lib$1.a given=''
@@ -271,7 +303,7 @@ archive_of() {
   if [ -n "$given" ]; then
     archive=$given
   else
-    build "lib$crate.a" "$archive" "$crate" staticlib
+    build "lib$crate.a" "$archive" "${crate}_c" "lib${crate}_c.a"
     [ "$ended" -eq 0 ] || {
       printf '%s' "$said" >&2
       return 1
