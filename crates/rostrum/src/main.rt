@@ -1,7 +1,11 @@
 // The program at the rostrum.
+#![tactic(auto)]
+
 ghost use Rattle.sheet.specs.Promises.{ListingWritten};
 
 use sheet::{LIMIT, ROOM};
+use std::io;
+use std::io::Write;
 
 // §2.2, §14.2: the listing of a sheet, on this program's own board.
 fn listed(sheet: &[u8], out: &mut [u8; ROOM]) -> usize
@@ -13,15 +17,10 @@ fn listed(sheet: &[u8], out: &mut [u8; ROOM]) -> usize
 }
 
 // §1.2: a sheet comes in, and its listing goes out.
-fn main() {
+fn main(rt: HostRuntime) -> io::Result<()> {
     let mut sheet = [0u8; LIMIT + 1];
     let mut out = [0u8; ROOM];
-    let read = io::read_full(libc::STDIN_FILENO, &mut sheet);
+    let read = intake::fill(&mut rt.stdin(), &mut sheet)?;
     let written = listed(&sheet[..read], &mut out);
-    if !io::write_all(libc::STDOUT_FILENO, &out[..written]) {
-        io::write_all(
-            libc::STDERR_FILENO,
-            b"rostrum: the listing was not written\n",
-        );
-    }
+    rt.stdout().write_all(&out[..written])
 }

@@ -8,8 +8,8 @@ use Rattle.sheet.proofs.AnyBoard.{listing_on}
 use Rattle.rostrum.proofs.listed.Statement.{statement}
 use Rattle.rostrum.proofs.listed.Tie as tie
 
-slice_aggregate_list : tie.Need-slice-aggregate-list
-slice_aggregate_list c = sym (length-take-le _ _ c.before.words.ensures.fits)
+slice_aggregate_list : tie.Need-slice_bounds-list-end
+slice_aggregate_list c = sym (length-take-le _ _ c.before.words-words.ensures.fits)
 
 returns : tie.Need-returns
 returns c =
@@ -17,9 +17,9 @@ returns c =
     let b = l.before.before in
     let a = b.before.before.before.args in
     let e = l.list.ensures in
-    let part = take {A = ℕ} b.before.words.result (replicate 2048 0) in
+    let part = take {A = ℕ} b.before.words-words.result (replicate 2048 0) in
     record {
-      lines = rw (← listing_on a.sheet.now part (sym (slice_aggregate_list b) ∙ b.before.words.ensures.whole)) e.whole.lines;
+      lines = rw (← listing_on a.sheet.now part (sym (slice_aggregate_list b) ∙ b.before.words-words.ensures.whole)) e.whole.lines;
       fits = e.fits;
     }
 
