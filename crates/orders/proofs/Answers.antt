@@ -12,8 +12,8 @@ use Rattle.sheet.specs.Listing.{Ending}
 use Rattle.sheet.specs.Play.{desk_of}
 use Rattle.sheet.specs.Room.{longest}
 use Rattle.sheet.specs.Promises.{Leaves}
-use Rattle.pen.specs.Written.{Wrote}
-use Rattle.pen.proofs.Writing.{wrote_within}
+use Rattle.sheet.specs.Written.{Wrote}
+use Rattle.sheet.proofs.Writing.{wrote_within}
 use Rattle.walks.specs.declared.Walked.{Walked}
 use Rattle.walks.specs.declared.Walked.TheVariants.{Refusal, Orders}
 use Rattle.orders.specs.declared.Answer.{Answer}
@@ -72,13 +72,13 @@ none_in (b ∷ bs) none = absurd (omega (arith, none))
 
 -- the length that an answer tells, and else this one
 abbrev length_in : ℕ → Answer → ℕ
-length_in long (Listing n) = n
-length_in long (Refused number offset) = long
-length_in long (Counts walks) = long
+length_in other (Listing n) = n
+length_in other (Refused number offset) = other
+length_in other (Counts walks) = other
 
-counts_none : (long offset : ℕ) (w : Walked) → length_in long (answer_of offset w) ≡ long
-counts_none long offset (Refusal number) = refl
-counts_none long offset (Orders walks) = refl
+counts_none : (other offset : ℕ) (w : Walked) → length_in other (answer_of offset w) ≡ other
+counts_none other offset (Refusal number) = refl
+counts_none other offset (Orders walks) = refl
 
 -- a listing that is told of stands in the buffer
 pub listing_stands :

@@ -4,7 +4,7 @@ use Rattle.sheet.specs.Fields.{byte_at}
 use Rattle.sheet.specs.Play.{Desk, record_of}
 use Rattle.sheet.specs.Listing.{Ending, own_play}
 use Rattle.sheet.specs.Room.{longest}
-use Rattle.pen.specs.Written.{Wrote}
+use Rattle.sheet.specs.Written.{Wrote}
 use Rattle.walks.specs.declared.Class.{Class}
 use Rattle.walks.specs.declared.Walked.{Walked}
 use Rattle.walks.specs.declared.Walked.TheVariants.{Refusal, Orders}

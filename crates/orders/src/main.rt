@@ -1,8 +1,12 @@
 // The program that walks every order of the turns that a sheet leaves open.
+#![tactic(auto)]
+
 ghost use Rattle.sheet.specs.Listing.{played, own_play};
 ghost use Rattle.orders.specs.Answers.{Answered, InputAnswered};
 
 use sheet::{LIMIT, ROOM};
+use std::io;
+use std::io::Write;
 use walks::{Class, Walked, Walks};
 
 // §18.7: the listing's length, where the sheet was refused; the number and the offset, where all orders was; and else the counts.
@@ -57,40 +61,41 @@ fn answered(input: &[u8], out: &mut [u8; ROOM]) -> Answer
 }
 
 // A number with the text before it.
-fn print(text: &[u8], n: u64) -> bool {
-    io::write_all(libc::STDOUT_FILENO, text) && io::print_decimal(libc::STDOUT_FILENO, n)
+fn print<W: Write>(to: &mut W, text: &[u8], n: u64) -> io::Result<()> {
+    to.write_all(text)?;
+    write!(to, "{n}")
 }
 
 // The end of a line.
-fn end_line() -> bool {
-    io::write_all(libc::STDOUT_FILENO, b"\n")
+fn end_line<W: Write>(to: &mut W) -> io::Result<()> {
+    to.write_all(b"\n")
 }
 
 // §9.3: the line of a refusal.
-fn print_refusal(why: u8, offset: usize) -> bool {
-    print(b"R ", why as u64) && print(b" ", offset as u64) && end_line()
+fn print_refusal<W: Write>(to: &mut W, why: u8, offset: usize) -> io::Result<()> {
+    print(to, b"R ", why as u64)?;
+    print(to, b" ", offset as u64)?;
+    end_line(to)
 }
 
 // §18.7: the line of the counts.
-fn print_walks(walks: Walks) -> bool {
-    print(b"finished ", walks.finished)
-        && print(b" cut ", walks.cut)
-        && print(b" lost ", walks.lost)
-        && print(b" most ", walks.most)
-        && end_line()
+fn print_walks<W: Write>(to: &mut W, walks: Walks) -> io::Result<()> {
+    print(to, b"finished ", walks.finished)?;
+    print(to, b" cut ", walks.cut)?;
+    print(to, b" lost ", walks.lost)?;
+    print(to, b" most ", walks.most)?;
+    end_line(to)
 }
 
 // §18.7: a sheet comes in with the depth behind it, and the counts go out.
-fn main() {
+fn main(rt: HostRuntime) -> io::Result<()> {
     let mut input = [0u8; LIMIT + 2];
     let mut out = [0u8; ROOM];
-    let read = io::read_full(libc::STDIN_FILENO, &mut input);
-    let printed = match answered(&input[..read], &mut out) {
-        Answer::Listing(written) => io::write_all(libc::STDOUT_FILENO, &out[..written]),
-        Answer::Refused(why, offset) => print_refusal(why, offset),
-        Answer::Counts(walks) => print_walks(walks),
-    };
-    if !printed {
-        io::write_all(libc::STDERR_FILENO, b"orders: the answer was not written\n");
+    let read = intake::fill(&mut rt.stdin(), &mut input)?;
+    let mut to = rt.stdout();
+    match answered(&input[..read], &mut out) {
+        Answer::Listing(written) => to.write_all(&out[..written]),
+        Answer::Refused(why, offset) => print_refusal(&mut to, why, offset),
+        Answer::Counts(walks) => print_walks(&mut to, walks),
     }
 }

@@ -7,16 +7,15 @@ use Rattle.orders.proofs.Answers.{none_in}
 use Rattle.orders.proofs.answered.Statement.{statement}
 use Rattle.orders.proofs.answered.Tie as tie
 
-returns : tie.Need-returns
+returns : tie.Need-returns-then-input-eq0
 returns c =
-    let t = c.before.before in
-    let none = none_in t.before.before.args.input.now t.if1.true in
-    record { given = rw (none.0, none.1) c.on-own-board.ensures }
+    let none = none_in c.args.input.now c.if-input-eq0.true in
+    record { given = rw (none.0, none.1) c.on_own_board.ensures }
 
-slice_aggregate_on_own_board : tie.Need-slice-aggregate-on-own-board
+slice_aggregate_on_own_board : tie.Need-slice_bounds-on_own_board-end
 slice_aggregate_on_own_board c = sym (length-take-le _ _ (omega arith))
 
-returns_2 : tie.Need-returns-2
+returns_2 : tie.Need-returns
 returns_2 c = search rules
 
 pub answered_spec : {M : Type 1} → statement M

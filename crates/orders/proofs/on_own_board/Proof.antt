@@ -1,22 +1,20 @@
 -- The lent part is as much of the board as the sheet's floor asks for. Assumes nothing.
 use borrow.Author.Rules.{rules}
-use mathlib.Core.Path.{sym, ap, ◌∙◌}
-use lib.ListN.{replicate}
+use mathlib.Core.Path.{sym}
 use lib.Seq.{length-take-le}
 use Rattle.sheet.specs.Listing.{own_play}
 use Rattle.orders.proofs.Answers.{take_zeros}
 use Rattle.orders.proofs.on_own_board.Statement.{statement}
 use Rattle.orders.proofs.on_own_board.Tie as tie
 
-slice_aggregate_walked : tie.Need-slice-aggregate-walked
-slice_aggregate_walked c = sym (length-take-le _ _ c.before.words.ensures.fits)
+slice_aggregate_walked : tie.Need-slice_bounds-walked-end
+slice_aggregate_walked c = sym (length-take-le _ _ c.words-words.ensures.fits)
 
 returns : tie.Need-returns
 unfolding own_play
 returns c =
-    let l = c.before in
-    let w = l.before.before.before.words.ensures in
-    rw (← w.whole, ← take_zeros _ 2048 w.fits) l.walked.ensures
+    let w = c.words-words.ensures in
+    rw (← w.whole, ← take_zeros _ 2048 w.fits) c.walked.ensures
 
 pub on_own_board_spec : {M : Type 1} → statement M
 on_own_board_spec =
