@@ -5,7 +5,8 @@ use mathlib.Core.List.{List, [], ◌∷◌, ◌++◌}
 use native.Mathlib.Omega.{arith}
 use lib.ListN.{length, take, set, length-append, length-take, length-drop}
 use lib.Seq.{take_all, take-nil}
-use Rattle.pen.specs.Written.{wrote, Wrote, room_for, Puts}
+use Rattle.sheet.specs.Written.{wrote, Wrote}
+use Rattle.pen.specs.Written.{room_for, Puts}
 use Rattle.pen.proofs.Writing.{wrote_byte, wrote_none, wrote_then}
 
 -- what is put fits
@@ -19,7 +20,6 @@ wrote_length out at l h = simp (length-append, length-take, length-drop) (omega 
 
 -- a part of two lists, one after the other
 take_both : (k : ℕ) (l m : List ℕ) → take k (l ++ m) ≡ take k l ++ take (k - length (take k l)) m
-unfolding take
 take_both zero l m = refl
 take_both (suc k) [] m = let all : suc k ≡ suc k - 0 = omega arith in ap (λ (n : ℕ). take n m) all
 take_both (suc k) (x ∷ l) m =

@@ -1,5 +1,7 @@
 // Bytes, words and numbers, one after another, into a lent buffer. Each function writes from a place on as far as there is room, and tells
 // the place after what it wrote: so none asks anything of its caller, and whoever lends enough gets all of it.
+#![tactic(auto)]
+
 ghost use Rattle.std.specs.Prelude.{[], ◌∷◌, ◌++◌};
 ghost use Rattle.pen.specs.Written.{Puts};
 ghost use Rattle.pen.specs.Decimal.{decimal};

@@ -12,24 +12,21 @@ use Rattle.pen.proofs.Putting.{puts_none, puts_then}
 use Rattle.pen.proofs.words.Statement.{statement}
 use Rattle.pen.proofs.words.Tie as tie
 
-abbrev invariant_loop : tie.invariant_loop
+abbrev invariant_loop : tie.invariant-loop-i
 invariant_loop out₀ at said next₀ i₀ out next i = Puts out₀ at (take i said) out next × (i ≤ length said) × (length out ≡ length out₀)
 
-abbrev decreases_loop : tie.decreases_loop
+abbrev decreases_loop : tie.decreases-loop-i
 decreases_loop out₀ at said next₀ i₀ out next i = length said - i
 
-loop_again : tie.Need-loop-preserved invariant_loop decreases_loop
+loop_again : tie.Need-loop-i-preserved invariant_loop decreases_loop
 loop_again c =
-    let b = c.before.before in
-    let inside = b.before.before.before in
-    let l = inside.before in
-    let said = l.before.before.before.args.said.now in
-    let last : take (l.loop.i + 1) said ≡ take l.loop.i said ++ (get_or said l.loop.i 0 ∷ []) =
-    rw add-one (take-suc said l.loop.i 0 inside.loop-test.true) in
-    (rw last (puts_then l.loop.invariant.0 b.byte.ensures), omega (arith, inside.loop-test.true), b.byte.auto.0 ∙ l.loop.invariant.2)
+    let said = c.args.said.now in
+    let last : take (c.loop-i.i + 1) said ≡ take c.loop-i.i said ++ (get_or said c.loop-i.i 0 ∷ []) =
+    rw add-one (take-suc said c.loop-i.i 0 c.loop-i-test.true) in
+    (rw last (puts_then c.loop-i.invariant.0 c.byte-next.ensures), omega (arith, c.loop-i-test.true), c.byte-next.auto.out ∙ c.loop-i.invariant.2)
 
 returns : tie.Need-returns invariant_loop decreases_loop
-returns c = rw (take_all _ _ c.loop-test.false) at c.before.loop.invariant.0
+returns c = rw (take_all _ _ c.loop-i-test.false) at c.loop-i.invariant.0
 
 pub words_spec : {M : Type 1} → statement M
 words_spec =
