@@ -24,7 +24,7 @@ use Rattle.view.specs.declared.Acted.{Acted}
 use Rattle.view.specs.declared.Stop.{Stop}
 use Rattle.view.specs.Telling.{told, things, mark_name, mark_told, word_told, cell_on, slot_told, slots_told, bucket_told, line_if, kind_name}
 use Rattle.view.specs.Telling.{read_told, outcome_told, swap_told, store_told, writes_told, does_told, head_told, turn_told}
-use Rattle.view.specs.Telling.{new_word_lem, new_ticket, new_held, new_slot, learnt_told, full_told, blame_told, lost_told, answer_told, end_told, news_told}
+use Rattle.view.specs.Telling.{new_word, new_ticket, new_held, new_slot, learnt_told, full_told, blame_told, lost_told, answer_told, end_told, news_told}
 use Rattle.view.specs.Telling.{open_told, ticket_told, begin_told, meaning, why_told, whose_told, stop_told}
 use Rattle.view.specs.Telling.{call_told, busy_told, busy_from, totals_told, over_told}
 
@@ -117,8 +117,8 @@ line_of : (k : ℕ) (words : List ℕ) (n : ℕ) → leb (length words + 21) k �
 unfolding bytes
 line_of k words n h = simp length-append (omega (arith, leb-true (length words + 21) k h, decimal_short n))
 
-new_word_lem : (w v : Worker) (action : Action) → length (new_word_lem w v action) ≤ 95
-unfolding bytes new_word_lem
+new_word_lem : (w v : Worker) (action : Action) → length (new_word w v action) ≤ 95
+unfolding bytes new_word
 new_word_lem w v action = search (choosing, word_fits)
 
 new_ticket_lem : (w v : Worker) → length (new_ticket w v) ≤ 40

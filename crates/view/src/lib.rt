@@ -1,4 +1,6 @@
 // A sheet played scene by scene, and told in words.
+#![tactic(auto)]
+
 ghost use Rattle.view.specs.Promises.{PageWritten, RefusalSaid};
 
 use engine::{Floor, Plan, Totals};

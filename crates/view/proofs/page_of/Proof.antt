@@ -11,17 +11,15 @@ use Rattle.view.proofs.OwnBoard.{own_scenes}
 use Rattle.view.proofs.page_of.Statement.{statement}
 use Rattle.view.proofs.page_of.Tie as tie
 
-slice_aggregate_page : tie.Need-slice-aggregate-page
-slice_aggregate_page c = sym (length-take-le _ _ c.before.words.ensures.fits)
+slice_aggregate_page : tie.Need-slice_bounds-page-end
+slice_aggregate_page c = sym (length-take-le _ _ c.words-words.ensures.fits)
 
 returns : tie.Need-returns
 returns c =
-    let p = c.before in
-    let w = p.before.before.before in
-    let a = w.before.before.args in
+    let a = c.args in
     let long : length a.out.now ≡ 1053760 = search rules in
-    let own = own_scenes a.sheet.now w.words.result w.words.ensures.whole w.words.ensures.fits in
-    let put : PagePut (scenes a.sheet.now) a.page a.out.now p.page.new.1.1.1.0 p.page.result = rw own at p.page.ensures in
+    let own = own_scenes a.sheet.now c.words-words.result c.words-words.ensures.whole c.words-words.ensures.fits in
+    let put : PagePut (scenes a.sheet.now) a.page a.out.now c.page.new.out c.page.result = rw own at c.page.ensures in
     record { lines = puts_all put.lines (omega (arith, long, page_fits a.sheet.now a.page)); last = put.last }
 
 pub page_of_spec : {M : Type 1} → statement M

@@ -10,18 +10,16 @@ use Rattle.view.proofs.Room.{refusal_fits}
 use Rattle.view.proofs.refusal.Statement.{statement}
 use Rattle.view.proofs.refusal.Tie as tie
 
-slice_aggregate_last : tie.Need-slice-aggregate-last
-slice_aggregate_last c = sym (length-take-le _ _ c.before.words.ensures.fits)
+slice_aggregate_last : tie.Need-slice_bounds-last-end
+slice_aggregate_last c = sym (length-take-le _ _ c.words-words.ensures.fits)
 
 returns : tie.Need-returns
 unfolding refusal_text
 returns c =
-    let l = c.before.before.before in
-    let w = l.before.before in
-    let a = w.before.before.args in
+    let a = c.args in
     let long : length a.out.now ≡ 1024 = search rules in
-    let own = own_scenes a.sheet.now w.words.result w.words.ensures.whole w.words.ensures.fits in
-    let said : refusal_in l.last.result.scene ≡ refusal_text a.sheet.now = l.last.ensures ∙ ap all_refused own in
+    let own = own_scenes a.sheet.now c.words-words.result c.words-words.ensures.whole c.words-words.ensures.fits in
+    let said : refusal_in c.last-stage.result.scene ≡ refusal_text a.sheet.now = c.last-stage.ensures ∙ ap all_refused own in
     record { lines = puts_all (rw said at c.refused.ensures) (omega (arith, long, refusal_fits a.sheet.now)) }
 
 pub refusal_spec : {M : Type 1} → statement M

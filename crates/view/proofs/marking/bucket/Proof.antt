@@ -11,15 +11,9 @@ bucket_spec =
     tie.close
     (tie.spec
     (λ c κs. search rules)
-    (λ c. search rules)
     (λ c κs. search rules)
-    (λ c. search rules)
     (λ c κs. search rules)
     (λ c κs. search rules)
     (λ c. search rules)
     (λ c.
-    let d3 = c.before.before in
-    let d2 = d3.before.before.before.before in
-    let d1 = d2.before.before.before.before.before in
-    let d0 = d1.before.before.before in
-    rw (← d0.cell.ensures) (puts_then d1.told.ensures (puts_then d2.version.ensures d3.slots.ensures))))
+    rw (← c.cell-word.ensures) (puts_then c.told-number.ensures (puts_then c.version-told.ensures c.slots.ensures))))

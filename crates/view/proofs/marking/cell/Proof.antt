@@ -18,5 +18,5 @@ cell_spec =
     (λ c. search rules)
     (λ c. search rules)
     (λ c. search rules)
-    (λ c. sym (get_or-eq_default c.before.before.args.board.now 0 (omega arith)))
-    (λ c. sym (get_or-eq_default c.before.args.board.now 0 (omega arith))))
+    (λ c. sym (get_or-eq_default c.args.board.now 0 (omega arith)))
+    (λ c. sym (get_or-eq_default c.args.board.now 0 (omega arith))))

@@ -10,4 +10,4 @@ cell_word_spec =
     (λ c κs. search rules)
     (λ c κs. search rules)
     (λ c. search rules)
-    (λ c. rw (← c.before.before.before.before.cell.ensures) (search tellings)))
+    (λ c. rw (← c.cell-word.ensures) (search tellings)))

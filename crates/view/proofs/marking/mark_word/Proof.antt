@@ -11,22 +11,13 @@ mark_word_spec =
     tie.close
     (tie.spec
     (λ c κs. search rules)
-    (λ c. search rules)
     (λ c κs. search rules)
-    (λ c. search rules)
     (λ c κs. search rules)
-    (λ c. search rules)
     (λ c κs. search rules)
-    (λ c. search rules)
     (λ c κs. search rules)
     (λ c. search rules)
     (λ c.
-    let d4 = c.before.before in
-    let d3 = d4.before.before.before.before.before in
-    let d2 = d3.before.before.before.before.before in
-    let d1 = d2.before.before.before.before.before in
-    let d0 = d1.before.before.before.before.before in
-    puts_then d0.version.ensures
-    (puts_then d1.slot_mark.ensures
-    (puts_then d2.slot-mark2.ensures
-    (puts_then d3.slot-mark3.ensures d4.words.ensures)))))
+    puts_then c.version-number.ensures
+    (puts_then c.slot_mark-first.ensures
+    (puts_then c.slot_mark-second.ensures
+    (puts_then c.slot_mark-third.ensures c.words.ensures)))))

@@ -10,7 +10,6 @@ plural_spec =
     tie.close
     (tie.spec
     (λ c. search tellings)
-    (λ c. search rules)
     (λ c κs. search rules)
     (λ c. search rules)
     (λ c. search tellings))

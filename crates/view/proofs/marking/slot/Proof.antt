@@ -10,20 +10,12 @@ unfolding bytes slot_told
 slot_spec =
     tie.close
     (tie.spec
-    (λ c. search rules)
     (λ c κs. search rules)
-    (λ c. search rules)
     (λ c κs. search rules)
-    (λ c. search rules)
     (λ c κs. search rules)
-    (λ c. search rules)
     (λ c κs. search rules)
     (λ c. search rules)
     (λ c.
-    let d3 = c.before.before in
-    let d2 = d3.before.before.before.before.before in
-    let d1 = d2.before.before.before.before.before in
-    let d0 = d1.before.before.before.before.before in
-    puts_then d0.slot_mark.ensures
-    (puts_then d1.cell-word.ensures
-    (puts_then d2.cell-word2.ensures d3.words.ensures))))
+    puts_then c.slot_mark-mark.ensures
+    (puts_then c.cell_word-lot.ensures
+    (puts_then c.cell_word-ticket.ensures c.words.ensures))))

@@ -12,6 +12,4 @@ slot_mark_spec =
     (λ c κs. search rules)
     (λ c. search rules)
     (λ c.
-    let name = c.before.before in
-    let words = name.before.before.before.before in
-    rw (← words.before.before.mark_of_lem.ensures) (puts_then words.words.ensures name.mark-name.ensures)))
+    rw (← c.mark_of-mark.ensures) (puts_then c.words-next.ensures c.mark_name.ensures)))

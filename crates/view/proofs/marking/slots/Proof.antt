@@ -13,14 +13,9 @@ slots_spec =
     (λ c κs. search rules)
     (λ c κs. search rules)
     (λ c κs. search rules)
-    (λ c. search rules)
     (λ c κs. search rules)
     (λ c. search rules)
     (λ c.
-    let d3 = c.before.before in
-    let d2 = d3.before.before.before.before.before in
-    let d1 = d2.before.before.before.before in
-    let d0 = d1.before.before.before.before in
-    puts_then d0.slot.ensures
-    (puts_then d1.slot2.ensures
-    (puts_then d2.slot3.ensures d3.words.ensures))))
+    puts_then c.slot-first.ensures
+    (puts_then c.slot-second.ensures
+    (puts_then c.slot-third.ensures c.words.ensures))))

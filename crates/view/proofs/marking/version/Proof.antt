@@ -11,4 +11,4 @@ version_spec =
     (λ c. search rules)
     (λ c κs. search rules)
     (λ c. search rules)
-    (λ c. rw (← c.before.before.before.before.version_of.ensures) (search tellings)))
+    (λ c. rw (← c.version_of-version.ensures) (search tellings)))

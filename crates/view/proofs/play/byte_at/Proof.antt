@@ -7,4 +7,4 @@ use Rattle.view.proofs.play.byte_at.Tie as tie
 pub byte_at_spec : {M : Type 1} → statement M
 byte_at_spec =
     tie.close
-    (tie.spec (λ c. search rules) (λ c. search rules) (λ c. sym (get_or-eq_default c.before.args.sheet.now 0 c.if1.false)))
+    (tie.spec (λ c. search rules) (λ c. search rules) (λ c. sym (get_or-eq_default c.args.sheet.now 0 c.if-at-sheet.false)))

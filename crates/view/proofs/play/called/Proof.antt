@@ -5,7 +5,7 @@ use Rattle.view.proofs.play.called.Tie as tie
 
 returns : tie.Need-returns
 unfolding call_scene
-returns c = rw (c.started.ensures, c.before.start.ensures, c.before.before.before.record_of.ensures)
+returns c = rw (c.started.ensures, c.start-done.ensures, c.record_of-w.ensures)
 
 pub called_spec : {M : Type 1} → statement M
 called_spec = tie.close (tie.spec (λ c κs. search rules) (λ c κs. search rules) (λ c κs. search rules) returns)

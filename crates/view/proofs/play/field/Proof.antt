@@ -5,21 +5,15 @@ use Rattle.view.proofs.play.field.Tie as tie
 
 whole_requires : tie.Need-whole-requires
 whole_requires c κs =
-    let k = c.before.before in
-    let d = k.before.before in
-    (d.before.before.before.before.requires, sym d.read.ensures ∙ k.read3.given.1)
+    (c.requires, sym c.read-read.ensures ∙ c.in-Whole.is)
 
-returns : tie.Need-returns
+returns : tie.Need-returns-in-Refused
 returns c =
-    let i = c.before in
-    let k = i.before.before in
-    rw (← k.before.before.read.ensures, k.read2.given.1, c.stopped.ensures, i.in_field.ensures)
+    rw (← c.read-read.ensures, c.in-Refused.is, c.stopped.ensures, c.in_field.ensures)
 
-returns_2 : tie.Need-returns-2
+returns_2 : tie.Need-returns-in-Whole
 returns_2 c =
-    let w = c.before.before in
-    let k = w.before.before.before in
-    rw (← k.before.before.read.ensures, k.read3.given.1) w.whole.ensures
+    rw (← c.read-read.ensures, c.in-Whole.is) c.whole.ensures
 
 pub field_spec : {M : Type 1} → statement M
 field_spec =

@@ -3,11 +3,11 @@ use borrow.Author.Tests.{eq-eqb, ne_eqb}
 use Rattle.view.proofs.play.laid.Statement.{statement}
 use Rattle.view.proofs.play.laid.Tie as tie
 
-returns : tie.Need-returns
-returns c = rw (eq-eqb _ 0 c.before.before.before.before.if1.true, c.before.before.before.idle.ensures)
+returns : tie.Need-returns-then-laid-eq0
+returns c = rw (eq-eqb _ 0 c.if-laid-eq0.true, c.idle-idle.ensures)
 
-returns_2 : tie.Need-returns-2
-returns_2 c = rw (ne_eqb _ 0 c.before.if1.false) c.stopped.ensures
+returns_2 : tie.Need-returns
+returns_2 c = rw (ne_eqb _ 0 c.if-laid-eq0.false) c.stopped.ensures
 
 pub laid_spec : {M : Type 1} → statement M
 laid_spec = tie.close (tie.spec (λ c κs. search rules) returns (λ c κs. search rules) returns_2)

@@ -9,9 +9,7 @@ use Rattle.view.proofs.play.opened.Tie as tie
 returns : tie.Need-returns
 unfolding open_scene
 returns c =
-    let o = c.before.before.before in
-    let s = o.before.before.before.before in
-    rw c.laid.ensures (ap (λ (x : After Laid). opened_by s.args.plan s.args.stage x) o.open-floor.ensures.whole)
+    rw c.laid.ensures (ap (λ (x : After Laid). opened_by c.args.plan c.args.stage x) c.open_floor-done.ensures.whole)
 
 pub opened_spec : {M : Type 1} → statement M
 opened_spec = tie.close (tie.spec (λ c κs. search rules) (λ c κs. search rules) (λ c. search rules) returns)

@@ -9,11 +9,9 @@ use Rattle.view.proofs.play.turn.Tie as tie
 returns : tie.Need-returns
 unfolding turn_scene
 returns c =
-    let t = c.before.before.before in
-    let r = t.before.before.before in
-    let a = r.before.before.before.args in
-    rw (c.tried.ensures, ← r.record_of.ensures)
-    (ap (λ (x : After Tried). turn_tried a.stage a.worker r.record_of.result x) t.try-turn.ensures.whole)
+    let a = c.args in
+    rw (c.tried.ensures, ← c.record_of-w.ensures)
+    (ap (λ (x : After Tried). turn_tried a.stage a.worker c.record_of-w.result x) c.try_turn-done.ensures.whole)
 
 pub turn_spec : {M : Type 1} → statement M
 turn_spec =

@@ -6,31 +6,22 @@ use Rattle.view.proofs.play.whole.Tie as tie
 
 turn_requires : tie.Need-turn-requires
 turn_requires c κs =
-    let i = c.before in
-    let f = i.before.before.before in
-    let s = f.before.before.before.before in
-    let is = rw f.field3.given.1 at s.requires.1 in
+    let is = rw c.in-Turning.is at c.requires.1 in
     let n = whole_next _ _ _ _ is in
     let w = whole_turns _ _ _ _ is in
-    rw i.in-field3.ensures (omega (arith, n.0, w.0))
+    rw c.in_field-in-Turning.ensures (omega (arith, n.0, w.0))
 
-returns : tie.Need-returns
+returns : tie.Need-returns-in-Opening
 returns c =
-    let o = c.before.before in
-    let i = o.before in
-    rw i.before.before.before.field.given.1 (rw i.in_field.ensures at o.opened.ensures)
+    rw c.in-Opening.is (rw c.in_field.ensures at c.opened.ensures)
 
-returns_2 : tie.Need-returns-2
+returns_2 : tie.Need-returns-in-Calling
 returns_2 c =
-    let i = c.before in
-    rw i.before.before.before.field2.given.1 (rw i.in-field2.ensures at c.called.ensures)
+    rw c.in-Calling.is (rw c.in_field-in-Calling.ensures at c.called.ensures)
 
-returns_3 : tie.Need-returns-3
+returns_3 : tie.Need-returns-in-Turning
 returns_3 c =
-    let t = c.before.before in
-    let b = t.before in
-    let i = b.before in
-    rw i.before.before.before.field3.given.1 (rw (i.in-field3.ensures, b.byte_at_lem.ensures) at t.turn.ensures)
+    rw c.in-Turning.is (rw (c.in_field-in-Turning.ensures, c.byte_at.ensures) at c.turn.ensures)
 
 pub whole_spec : {M : Type 1} → statement M
 whole_spec =

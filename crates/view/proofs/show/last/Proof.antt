@@ -9,42 +9,38 @@ use Rattle.view.proofs.Playing.{Accepted, accepted_starts, accepted_next, accept
 use Rattle.view.proofs.show.last.Statement.{statement}
 use Rattle.view.proofs.show.last.Tie as tie
 
-abbrev invariant_loop : tie.invariant_loop
+abbrev invariant_loop : tie.invariant-loop-stage
 invariant_loop sheet board₀ stage₀ board stage = Accepted sheet board₀ (after board stage) × (length board ≡ length board₀)
 
-abbrev decreases_loop : tie.decreases_loop
+abbrev decreases_loop : tie.decreases-loop-stage
 decreases_loop sheet board₀ stage₀ board stage = length sheet - stage.cursor.turn
 
-loop_holds : tie.Need-loop-init invariant_loop decreases_loop
-loop_holds c = (rw c.shut.ensures (accepted_starts _ _), refl)
+loop_holds : tie.Need-loop-stage-init invariant_loop decreases_loop
+loop_holds c = (rw c.shut-stage.ensures (accepted_starts _ _), refl)
 
-next_requires : tie.Need-next-requires invariant_loop decreases_loop
+next_requires : tie.Need-next-next-requires invariant_loop decreases_loop
 next_requires c κs =
-    let g = c.before.loop.invariant.0.playing.within in
+    let g = c.loop-stage.invariant.0.playing.within in
     omega (arith, g.fields, g.turns, g.inside)
 
-same_length : tie.Need-same-length invariant_loop decreases_loop
+same_length : tie.Need-shape_of-board-then-cursor invariant_loop decreases_loop
 same_length c =
-    let n = c.before.before.before.before in
-    n.next.auto.1.0 ∙ n.before.before.loop.invariant.1
+    c.next-next.auto.board ∙ c.loop-stage.invariant.1
 
-returns : tie.Need-returns invariant_loop decreases_loop
+returns : tie.Need-returns-then-cursor invariant_loop decreases_loop
 returns c =
-    let n = c.before.before.before.before in
-    accepted_last _ _ _ _ n.before.before.loop.invariant.0 n.next.ensures c.if1.true
+    accepted_last _ _ _ _ c.loop-stage.invariant.0 c.next-next.ensures c.if-cursor.true
 
-loop_less : tie.Need-loop-smaller invariant_loop decreases_loop
+loop_less : tie.Need-loop-stage-smaller invariant_loop decreases_loop
 loop_less c =
-    let n = c.before.before.before.before in
-    let so_far = n.before.before.loop.invariant.0 in
-    let b = played_beyond _ _ _ _ _ so_far.playing n.next.ensures c.if1.false in
+    let so_far = c.loop-stage.invariant.0 in
+    let b = played_beyond _ _ _ _ _ so_far.playing c.next-next.ensures c.if-cursor.false in
     omega (arith, b.further, b.within.turns, b.within.inside)
 
-loop_again : tie.Need-loop-preserved invariant_loop decreases_loop
+loop_again : tie.Need-loop-stage-preserved invariant_loop decreases_loop
 loop_again c =
-    let n = c.before.before.before.before in
-    let g = n.before.before.loop.invariant in
-    (accepted_next _ _ _ _ g.0 n.next.ensures c.if1.false, n.next.auto.1.0 ∙ g.1)
+    let g = c.loop-stage.invariant in
+    (accepted_next _ _ _ _ g.0 c.next-next.ensures c.if-cursor.false, c.next-next.auto.board ∙ g.1)
 
 pub last_spec : {M : Type 1} → statement M
 last_spec =

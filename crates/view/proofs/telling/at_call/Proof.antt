@@ -10,19 +10,12 @@ unfolding bytes call_told
 at_call_spec =
     tie.close
     (tie.spec
-    (λ c. search rules)
-    (λ c κs. search rules)
-    (λ c. search rules)
     (λ c κs. search rules)
     (λ c κs. search rules)
-    (λ c. search rules)
+    (λ c κs. search rules)
     (λ c κs. search rules)
     (λ c. search rules)
     (λ c.
-    let d3 = c.before.before in
-    let d2 = d3.before.before.before.before.before in
-    let d1 = d2.before.before.before.before in
-    let d0 = d1.before.before.before.before.before in
-    puts_then d0.told.ensures
-    (puts_then d1.words.ensures
-    (puts_then d2.kind-name.ensures d3.line.ensures))))
+    puts_then c.told-worker.ensures
+    (puts_then c.words-still.ensures
+    (puts_then c.kind_name-kind.ensures c.line.ensures))))

@@ -10,19 +10,12 @@ unfolding bytes over_told
 end_spec =
     tie.close
     (tie.spec
-    (λ c. search rules)
-    (λ c. search rules)
     (λ c κs. search rules)
     (λ c κs. search rules)
-    (λ c. search rules)
     (λ c κs. search rules)
     (λ c κs. search rules)
     (λ c. search rules)
     (λ c.
-    let d3 = c.before.before in
-    let d2 = d3.before.before.before.before in
-    let d1 = d2.before.before.before.before.before in
-    let d0 = d1.before.before.before.before in
-    puts_then d0.things.ensures
-    (puts_then d1.totals.ensures
-    (puts_then d2.words.ensures d3.everyone.ensures))))
+    puts_then c.things-stand.ensures
+    (puts_then c.totals-turns.ensures
+    (puts_then c.words-done.ensures c.everyone.ensures))))

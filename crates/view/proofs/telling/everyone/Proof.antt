@@ -15,40 +15,35 @@ use Rattle.view.proofs.Everyone.{busy_more}
 use Rattle.view.proofs.telling.everyone.Statement.{statement}
 use Rattle.view.proofs.telling.everyone.Tie as tie
 
-abbrev invariant_loop : tie.invariant_loop
+abbrev invariant_loop : tie.invariant-loop-i
 invariant_loop out₀ at records next₀ i₀ out next i =
     Puts out₀ at (busy_from 0 (take i records)) out next × (i ≤ 64) × (length out ≡ length out₀)
 
-abbrev decreases_loop : tie.decreases_loop
+abbrev decreases_loop : tie.decreases-loop-i
 decreases_loop out₀ at records next₀ i₀ out next i = 64 - i
 
 -- the list has a record for each of 64 workers
-sized : (c : tie.Start invariant_loop decreases_loop) → length c.args.t3 ≡ 64
-sized c = c.well_formed_lem.1.1.0.1.0.1
+sized : (c : tie.Start invariant_loop decreases_loop) → length c.args.records ≡ 64
+sized c = c.well_formed.1.1.0.1.0.1
 
-loop_holds : tie.Need-loop-init invariant_loop decreases_loop
+loop_holds : tie.Need-loop-i-init invariant_loop decreases_loop
 unfolding busy_from
 loop_holds c = (puts_none _ _, omega arith, refl)
 
-loop_again : tie.Need-loop-preserved invariant_loop decreases_loop
+loop_again : tie.Need-loop-i-preserved invariant_loop decreases_loop
 loop_again c =
-    let b = c.before.before in
-    let inside = b.before.before.before in
-    let l = inside.before in
-    let start = l.before.before in
-    let i = l.loop.i in
-    let ws = start.args.t3 in
-    let under : i + 1 ≤ length ws = omega (arith, sized start, inside.loop-test.true) in
+    let i = c.loop-i.i in
+    let ws = c.args.records in
+    let under : i + 1 ≤ length ws = omega (arith, sized c.before.before.before.before.before.before.before.before, c.loop-i-test.true) in
     let last : take (i + 1) ws ≡ take i ws ++ (get_or ws i blank ∷ []) = rw add-one (take-suc ws i blank (omega arith)) in
     let at : 0 + length (take i ws) ≡ i = omega (arith, length-take-le i ws (omega arith)) in
     let more : busy_from 0 (take (i + 1) ws) ≡ busy_from 0 (take i ws) ++ busy_told i (get_or ws i blank) =
     ap (busy_from 0) last ∙ busy_more 0 (take i ws) (get_or ws i blank) ∙ rw at in
-    (rw more (puts_then l.loop.invariant.0 b.busy.ensures), omega (arith, inside.loop-test.true), b.busy.auto.0 ∙ l.loop.invariant.2)
+    (rw more (puts_then c.loop-i.invariant.0 c.busy-next.ensures), omega (arith, c.loop-i-test.true), c.busy-next.auto.out ∙ c.loop-i.invariant.2)
 
 returns : tie.Need-returns invariant_loop decreases_loop
 returns c =
-    let start = c.before.before.before in
-    rw (take_all c.before.loop.i start.args.t3 (omega (arith, sized start, c.loop-test.false))) at c.before.loop.invariant.0
+    rw (take_all c.loop-i.i c.args.records (omega (arith, sized c.before.before.before, c.loop-i-test.false))) at c.loop-i.invariant.0
 
 pub everyone_spec : {M : Type 1} → statement M
 everyone_spec =

@@ -10,18 +10,10 @@ unfolding bytes open_told
 opening_spec =
     tie.close
     (tie.spec
-    (λ c. search rules)
-    (λ c. search rules)
     (λ c κs. search rules)
-    (λ c. search rules)
-    (λ c. search rules)
     (λ c κs. search rules)
-    (λ c. search rules)
     (λ c. search rules)
     (λ c κs. search rules)
     (λ c. search rules)
     (λ c.
-    let d2 = c.before.before in
-    let d1 = d2.before.before.before.before.before.before in
-    let d0 = d1.before.before.before.before.before.before in
-    puts_then d0.things.ensures (puts_then d1.things2.ensures d2.line.ensures)))
+    puts_then c.things-workers.ensures (puts_then c.things-buckets.ensures c.line.ensures)))

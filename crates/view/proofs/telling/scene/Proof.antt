@@ -18,29 +18,19 @@ scene_spec =
     (λ c κs. search rules)
     (λ c. search rules)
     (λ c κs. search rules)
-    (λ c. rw c.enum_told.given.1 (puts_none _ _))
+    (λ c. rw c.in-Nothing.is (puts_none _ _))
     (λ c. search rules)
     (λ c.
-    let d1 = c.before.before in
-    let d0 = d1.before.before.before in
-    rw d0.scene.given.1 d1.opening.ensures)
+    rw c.in-Opened.is c.opening.ensures)
     (λ c. search rules)
     (λ c.
-    let d1 = c.before.before in
-    let d0 = d1.before.before.before in
-    rw d0.scene2.given.1 d1.start.ensures)
+    rw c.in-Began.is c.start.ensures)
     (λ c. search rules)
     (λ c.
-    let d1 = c.before.before in
-    let d0 = d1.before.before.before in
-    rw d0.scene3.given.1 d1.turn.ensures)
+    rw c.in-Turned.is c.turn.ensures)
     (λ c. search rules)
     (λ c.
-    let d1 = c.before.before in
-    let d0 = d1.before.before.before in
-    rw d0.scene4.given.1 d1.stop.ensures)
+    rw c.in-Stopped.is c.stop.ensures)
     (λ c. search rules)
     (λ c.
-    let d1 = c.before.before in
-    let d0 = d1.before.before.before in
-    rw d0.scene5.given.1 d1.end.ensures))
+    rw c.in-Over.is c.end.ensures))

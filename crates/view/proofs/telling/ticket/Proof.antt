@@ -10,7 +10,6 @@ unfolding bytes ticket_told
 ticket_spec =
     tie.close
     (tie.spec
-    (λ c. search rules)
     (λ c κs. search rules)
     (λ c. search rules)
     (λ c. search tellings)

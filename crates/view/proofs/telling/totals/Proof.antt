@@ -11,27 +11,15 @@ totals_spec =
     tie.close
     (tie.spec
     (λ c. search rules)
-    (λ c. search rules)
+    (λ c κs. search rules)
     (λ c. search rules)
     (λ c κs. search rules)
     (λ c. search rules)
-    (λ c. search rules)
-    (λ c. search rules)
     (λ c κs. search rules)
-    (λ c. search rules)
-    (λ c. search rules)
-    (λ c. search rules)
-    (λ c κs. search rules)
-    (λ c. search rules)
-    (λ c. search rules)
     (λ c. search rules)
     (λ c κs. search rules)
     (λ c. search rules)
     (λ c.
-    let d3 = c.before.before in
-    let d2 = d3.before.before.before.before.before.before.before in
-    let d1 = d2.before.before.before.before.before.before.before in
-    let d0 = d1.before.before.before.before.before.before.before in
-    puts_then d0.things.ensures
-    (puts_then d1.things2.ensures
-    (puts_then d2.things3.ensures d3.things4.ensures))))
+    puts_then c.things-turns.ensures
+    (puts_then c.things-changes.ensures
+    (puts_then c.things-lost.ensures c.things.ensures))))

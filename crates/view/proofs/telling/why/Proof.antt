@@ -10,14 +10,9 @@ unfolding bytes why_told
 why_spec =
     tie.close
     (tie.spec
-    (λ c. search rules)
     (λ c κs. search rules)
-    (λ c. search rules)
     (λ c κs. search rules)
     (λ c κs. search rules)
     (λ c. search rules)
     (λ c.
-    let d2 = c.before.before in
-    let d1 = d2.before.before.before.before in
-    let d0 = d1.before.before.before.before.before in
-    puts_then d0.told.ensures (puts_then d1.words.ensures d2.means.ensures)))
+    puts_then c.told-by.ensures (puts_then c.words-colon.ensures c.means.ensures)))

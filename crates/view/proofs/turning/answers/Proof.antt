@@ -10,14 +10,9 @@ unfolding bytes answer_told
 answers_spec =
     tie.close
     (tie.spec
-    (λ c. search rules)
     (λ c κs. search rules)
     (λ c κs. search rules)
-    (λ c. search rules)
     (λ c κs. search rules)
     (λ c. search rules)
     (λ c.
-    let d2 = c.before.before in
-    let d1 = d2.before.before.before.before.before in
-    let d0 = d1.before.before.before.before in
-    puts_then d0.words.ensures (puts_then d1.kind-name.ensures d2.line.ensures)))
+    puts_then c.words-its.ensures (puts_then c.kind_name-call.ensures c.line.ensures)))

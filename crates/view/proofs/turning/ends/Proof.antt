@@ -12,9 +12,7 @@ ends_spec =
     (λ c. search rules)
     (λ c. search rules)
     (λ c κs. search rules)
-    (λ c. rw c.enum_told.given.1 (puts_none _ _))
+    (λ c. rw c.in-GoesOn.is (puts_none _ _))
     (λ c. search rules)
     (λ c.
-    let d1 = c.before.before in
-    let d0 = d1.before.before.before in
-    rw d0.progress.given.1 d1.answers.ensures))
+    rw c.in-Ended.is c.answers.ensures))

@@ -10,7 +10,6 @@ unfolding bytes full_told
 full_round_spec =
     tie.close
     (tie.spec
-    (λ c. search rules)
     (λ c κs. search rules)
     (λ c. search rules)
     (λ c. search tellings)

@@ -10,24 +10,15 @@ unfolding bytes head_told
 head_spec =
     tie.close
     (tie.spec
-    (λ c. search rules)
-    (λ c κs. search rules)
-    (λ c. search rules)
-    (λ c. search rules)
     (λ c κs. search rules)
     (λ c. search rules)
     (λ c κs. search rules)
     (λ c κs. search rules)
-    (λ c. search rules)
+    (λ c κs. search rules)
     (λ c κs. search rules)
     (λ c. search rules)
     (λ c.
-    let d4 = c.before.before in
-    let d3 = d4.before.before.before.before.before in
-    let d2 = d3.before.before.before.before in
-    let d1 = d2.before.before.before.before.before in
-    let d0 = d1.before.before.before.before.before.before in
-    puts_then d0.told.ensures
-    (puts_then d1.told2.ensures
-    (puts_then d2.words.ensures
-    (puts_then d3.does.ensures d4.words2.ensures)))))
+    puts_then c.told-number.ensures
+    (puts_then c.told-worker.ensures
+    (puts_then c.words-space.ensures
+    (puts_then c.does-done.ensures c.words.ensures)))))

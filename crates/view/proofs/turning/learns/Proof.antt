@@ -15,10 +15,6 @@ learns_spec =
     (λ c κs. search rules)
     (λ c. search rules)
     (λ c.
-    let d3 = c.before.before in
-    let d2 = d3.before.before.before.before in
-    let d1 = d2.before.before.before.before in
-    let d0 = d1.before.before.before.before in
-    puts_then d0.new_word.ensures
-    (puts_then d1.new_ticket_lem.ensures
-    (puts_then d2.new_held_lem.ensures d3.new_slot_lem.ensures))))
+    puts_then c.new_word-word.ensures
+    (puts_then c.new_ticket-ticket.ensures
+    (puts_then c.new_held-held.ensures c.new_slot.ensures))))

@@ -9,6 +9,5 @@ moves_spec =
     (λ c. search rules)
     (λ c. search rules)
     (λ c.
-    let d = c.before.before in
-    rw d.enum_told.given.1)
+    rw c.in-GoesOn.is)
     (λ c. search rules))

@@ -15,10 +15,6 @@ news_spec =
     (λ c κs. search rules)
     (λ c. search rules)
     (λ c.
-    let d3 = c.before.before in
-    let d2 = d3.before.before.before.before in
-    let d1 = d2.before.before.before.before in
-    let d0 = d1.before.before.before.before in
-    puts_then d0.learns.ensures
-    (puts_then d1.full-round.ensures
-    (puts_then d2.lost-swap.ensures d3.ends.ensures))))
+    puts_then c.learns-own.ensures
+    (puts_then c.full_round-round.ensures
+    (puts_then c.lost_swap-swap.ensures c.ends.ensures))))

@@ -14,7 +14,4 @@ turn_spec =
     (λ c κs. search rules)
     (λ c. search rules)
     (λ c.
-    let d2 = c.before.before in
-    let d1 = d2.before.before.before.before in
-    let d0 = d1.before.before.before.before in
-    puts_then d0.head.ensures (puts_then d1.news.ensures d2.bucket.ensures)))
+    puts_then c.head-who.ensures (puts_then c.news-new.ensures c.bucket.ensures)))
