@@ -79,7 +79,8 @@ module _ (o : Opening) (done : List Call) (p : Point) (so : Stands o done p) (c 
         ∙ after_call s c small
         ∙ rw (← so.stands.board, seat_same o done p so i, record_same o done p so i known)
 
-    trace_is : trace (opened o) more ≡ trace (opened o) done
+    -- it is no turn
+    pub trace_is : trace (opened o) more ≡ trace (opened o) done
     trace_is =
         trace_from_then (opened o) done (call_of c)
         ∙ ap (λ (es : List Entry). trace (opened o) done ++ es) (entries_call s c)

@@ -4,6 +4,7 @@ pub mod Listings
 pub mod OwnBoard
 pub mod NoRefusal
 pub mod Sleeper
+pub mod Named
 -- a point stands as the calls so far leave an opened board
 pub mod Points
 pub mod Standing
@@ -16,3 +17,5 @@ pub mod Few
 -- a play comes to its end, and to its listing
 pub mod Ending
 pub mod Readings
+-- the scenes of a sheet have the turns of its history
+pub mod Scenes

@@ -131,6 +131,16 @@ module _ (o : Opening) (done : List Call) (p : Point) (so : Stands o done p) (i 
       ∙ ap (λ (x : After Turned). trace (opened o) done ++ entry_of s i x.handed.answer) history_turn
       ∙ ap (λ (v : Worker). trace (opened o) done ++ (acted (entry_for v) ∷ [])) (up_is s i ∙ ap awake (record_same o done p so i known))
 
+  -- so it is with the report that the engine answers
+  pub trace_turn :
+      (r : Report)
+      → (turn_call p.left.words (seat_at f i) w).handed.answer ≡ Done r
+      → trace (opened o) more ≡ trace (opened o) done ++ (acted (record { worker = i; was = awake w; report = r }) ∷ [])
+  trace_turn r told =
+      let same : Done r ≡ Done report = sym told ∙ ap (λ (x : After Turned). x.handed.answer) (turn_done_lem p.left.words (seat_at f i) w none) in
+      let own : report ≡ r = cc in
+      trace_is ∙ ap (λ (q : Report). trace (opened o) done ++ (acted (record { worker = i; was = awake w; report = q }) ∷ [])) own
+
   -- a count that goes up by what the entry counts for is that of the trace
   counts_on : (count : Entry → ℕ) (before after : ℕ) → before ≡ total count (trace (opened o) done) → after ≡ before + count (acted e) → after ≡ total count (trace (opened o) more)
   unfolding total
