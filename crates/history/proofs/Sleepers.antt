@@ -203,8 +203,8 @@ If s i n = Sound (listed_of s i) → (listed_of s i).asleep ≡ capped n
 slept_append : (i n : ℕ) (es fs : List Entry) → slept_through i n (es ++ fs) ≡ slept_through i (slept_through i n es) fs
 unfolding slept_through
 slept_append i n [] fs = refl
-slept_append i n (acted e ∷ es) fs = slept_append i (cond (eqb e.worker i) 0 (n + 1)) es fs
-slept_append i n (retired r ∷ es) fs = slept_append i n es fs
+slept_append i n (acted e ∷ es) fs = slept_append i (slept_through i n (acted e ∷ [])) es fs
+slept_append i n (retired r ∷ es) fs = slept_append i (slept_through i n (retired r ∷ [])) es fs
 
 module _ (i n : ℕ) where
   -- a turn
