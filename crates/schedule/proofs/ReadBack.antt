@@ -12,7 +12,7 @@ use Rattle.sheet.specs.declared.Read.{Read}
 use Rattle.sheet.specs.declared.Read.TheVariants.{Whole, Refused}
 use Rattle.sheet.specs.Fields.{byte_at, number_at, length_at, plan_at, call_at, span_at, Bytes}
 use Rattle.sheet.specs.Play.{turns_in}
-use Rattle.sheet.proofs.Fitting.{call_fits}
+use Rattle.sheet.proofs.Fitting.{call_fits_lem}
 use Rattle.pen.specs.Words.{bytes}
 use Rattle.schedule.specs.declared.Word.{Word}
 use Rattle.schedule.specs.Tokens.{span, same, word_at}
@@ -112,7 +112,7 @@ module _ (sheet : List ℕ) (are : Bytes sheet) (short : length sheet ≤ 16384)
       let size = length_at sheet at in
       let long : at + 3 + size - at ≡ 3 + size = omega arith in
       let kind = kind_known (byte_at sheet (at + 4)) size right in
-      let fit = call_fits (byte_at sheet (at + 4)) size right in
+      let fit = call_fits_lem (byte_at sheet (at + 4)) size right in
       let ticket = ticket_small sheet are at size fit in
       let worker = are (at + 3) in
       let lot = number_small sheet are (at + 5) 8 in

@@ -11,7 +11,7 @@ use borrow.Author.Tests.{leb-true, ltb-true, ltb-false, le-leb, lt-leb, ne_eqb}
 use Rattle.mark.proofs.Choices.{both_hold}
 use Rattle.pen.specs.Decimal.{decimal}
 use Rattle.pen.proofs.Decimal.{pow_div, decimal_one, decimal_more}
-use Rattle.schedule.specs.Tokens.{in_word, small, is_digit_lem, are_digits, value_after}
+use Rattle.schedule.specs.Tokens.{in_word, small, is_digit, are_digits, value_after}
 use Rattle.schedule.proofs.Places.{is_word}
 
 -- digits, at least one, that say a number
@@ -21,16 +21,16 @@ pub record Spells (n : ℕ) (word : List ℕ) : Type 0 where
   pub some : 1 ≤ length word
 
 -- the digit of a number below ten
-is_digit_lem : (d : ℕ) → d < 10 → is_digit_lem (48 + d) ≡ true
+is_digit_lem : (d : ℕ) → d < 10 → is_digit (48 + d) ≡ true
 is_digit_lem d small = both_hold (leb 48 (48 + d)) (leb (48 + d) 57) (le-leb 48 (48 + d) (omega arith)) (le-leb (48 + d) 57 (omega arith))
 
 -- one digit more
-digits_more : (l : List ℕ) (b : ℕ) → are_digits l ≡ true → is_digit_lem b ≡ true → are_digits (l ++ (b ∷ [])) ≡ true
+digits_more : (l : List ℕ) (b : ℕ) → are_digits l ≡ true → is_digit b ≡ true → are_digits (l ++ (b ∷ [])) ≡ true
 unfolding are_digits
 digits_more [] b all is = rw is
 digits_more (c ∷ l) b all is =
-    let both = (and-eq-true_iff (is_digit_lem c) (are_digits l)).0 all in
-    both_hold (is_digit_lem c) (are_digits (l ++ (b ∷ []))) both.0 (digits_more l b both.1 is)
+    let both = (and-eq-true_iff (is_digit c) (are_digits l)).0 all in
+    both_hold (is_digit c) (are_digits (l ++ (b ∷ []))) both.0 (digits_more l b both.1 is)
 
 -- and what they say with it
 value_more : (before : ℕ) (l : List ℕ) (b : ℕ) → value_after before (l ++ (b ∷ [])) ≡ 10 * value_after before l + (b - 48)
@@ -40,7 +40,7 @@ value_more before (c ∷ l) b = value_more (10 * before + (c - 48)) l b
 
 one_digit : (n : ℕ) → n < 10 → Spells n ((48 + n) ∷ [])
 unfolding are_digits value_after
-one_digit n small = record { digits = both_hold (is_digit_lem (48 + n)) true (is_digit_lem n small) refl; says = omega arith; some = omega arith }
+one_digit n small = record { digits = both_hold (is_digit (48 + n)) true (is_digit_lem n small) refl; says = omega arith; some = omega arith }
 
 more_digits : (n : ℕ) (l : List ℕ) → Spells (n / 10) l → Spells n (l ++ ((48 + n % 10) ∷ []))
 more_digits n l s =
@@ -71,7 +71,7 @@ pub spells : (n : ℕ) → n < 10 ^ 20 → Spells n (decimal n)
 spells n small = spells_in 20 n (omega arith) small
 
 -- a digit is no blank, no comment and no end of a line
-digit_byte : (b : ℕ) → is_digit_lem b ≡ true → in_word b ≡ true
+digit_byte : (b : ℕ) → is_digit b ≡ true → in_word b ≡ true
 digit_byte b is =
     let both = (and-eq-true_iff (leb 48 b) (leb b 57)).0 is in
     let low = leb-true 48 b both.0 in
@@ -83,7 +83,7 @@ pub digits_word : (l : List ℕ) → are_digits l ≡ true → is_word l ≡ tru
 unfolding are_digits is_word
 digits_word [] all = refl
 digits_word (b ∷ l) all =
-    let both = (and-eq-true_iff (is_digit_lem b) (are_digits l)).0 all in
+    let both = (and-eq-true_iff (is_digit b) (are_digits l)).0 all in
     both_hold (in_word b) (is_word l) (digit_byte b both.0) (digits_word l both.1)
 
 -- they begin with no x
@@ -91,7 +91,7 @@ pub digits_head : (l : List ℕ) → are_digits l ≡ true → 1 ≤ length l �
 unfolding are_digits
 digits_head [] all some = absurd (omega arith)
 digits_head (b ∷ l) all some =
-    let both = (and-eq-true_iff (is_digit_lem b) (are_digits l)).0 all in
+    let both = (and-eq-true_iff (is_digit b) (are_digits l)).0 all in
     let within = (and-eq-true_iff (leb 48 b) (leb b 57)).0 both.0 in
     let high = leb-true b 57 within.1 in
     rw (lt-leb 65 b (omega arith)) (ne_eqb b 120 (omega arith))

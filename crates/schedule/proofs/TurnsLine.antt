@@ -169,7 +169,7 @@ runs_read {text} {at} (suc fuel) (suc more) (i ∷ is) rest are few enough room 
     let less = length-append (run_text i (1 + n)) (runs_text fuel (drop n is)) in
     let some = run_long i (1 + n) in
     let r = first_run fuel i is rest are few a in
-    let l = runs_read fuel more (drop n is) rest (later i n is are) (omega arith) (omega arith) (omega arith) r.often.left in
+    let l = runs_read {at = (times_at text (number_at text at 255 17).at).at} fuel more (drop n is) rest (later i n is are) (omega arith) (omega arith) (omega arith) r.often.left in
     let one : 1 + n ≡ suc n = omega arith in
     let all : replicate (1 + n) i ++ drop n is ≡ i ∷ is = rw one (ap (λ (l : List ℕ). i ∷ l) (run_first i is)) in
     rw (r.some, r.fine, r.who, r.often.fine, r.often.value, l.fine, l.bytes) (record { fine = refl; bytes = all; left = l.left })

@@ -1,5 +1,5 @@
 -- The fields of a sheet as bytes.
-use Rattle.std.specs.Prelude.{ℕ, zero, suc, ◌+◌, ◌/◌, ◌%◌, Bool, cond, List, [], ◌∷◌, ◌++◌, length, eqb}
+use Rattle.std.specs.Prelude.{ℕ, zero, suc, ◌/◌, ◌%◌, Bool, cond, List, [], ◌∷◌, ◌++◌, length, eqb}
 use Rattle.turn.specs.Worker.{insert_kind}
 use Rattle.engine.specs.declared.Plan.{Plan}
 use Rattle.sheet.specs.declared.Call.{Call}

@@ -1,4 +1,6 @@
 // A schedule as text, and the sheet that it is; a sheet, and the text that says it.
+#![tactic(auto)]
+
 ghost use Rattle.schedule.specs.Promises.{SheetMade, TextRecited, Complained, is_text};
 ghost use Rattle.schedule.specs.Saids.{last_made};
 ghost use Rattle.std.specs.Prelude.{◌≡◌, length};

@@ -9,15 +9,11 @@ use Rattle.schedule.proofs.complain.Tie as tie
 returns : tie.Need-returns
 unfolding complaint bytes
 returns c =
-    let d4 = c.before.before.before in
-    let d3 = d4.before.before in
-    let d2 = d3.before.before.before in
-    let d1 = d2.before.before.before in
-    let s = d1.before.before.before.spot.ensures in
+    let s = c.spot-spot.ensures in
     record {
       lines = rw (← s)
-          (puts_then d1.told.ensures
-          (puts_then d2.told2.ensures (puts_then d3.words.ensures (puts_then d4.expected.ensures c.words2.ensures))));
+          (puts_then c.told-line.ensures
+          (puts_then c.told-column.ensures (puts_then c.words-behind.ensures (puts_then c.expected-last.ensures c.words.ensures))));
     }
 
 pub complain_spec : {M : Type 1} → statement M
@@ -25,13 +21,9 @@ complain_spec =
     tie.close
     (tie.spec
     (λ c κs. search rules)
-    (λ c. search rules)
-    (λ c κs. search rules)
-    (λ c. search rules)
-    (λ c κs. search rules)
-    (λ c. search rules)
     (λ c κs. search rules)
     (λ c κs. search rules)
-    (λ c. search rules)
+    (λ c κs. search rules)
+    (λ c κs. search rules)
     (λ c κs. search rules)
     returns)

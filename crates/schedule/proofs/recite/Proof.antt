@@ -10,11 +10,10 @@ use Rattle.schedule.proofs.recite.Tie as tie
 
 returns : tie.Need-returns
 returns c =
-    let k = c.before.before in
-    let a = k.before.args in
+    let a = c.args in
     let e = c.lines.ensures in
     let long : length a.out.now ≡ 65600 = search rules in
-    let most = text_fits a.sheet.now (λ i. omega (arith, k.shared-slice-known.given i)) in
+    let most = text_fits a.sheet.now (λ i. omega (arith, c.shared_slice_known-1.given i)) in
     record {
       recites = e;
       fits = λ short. omega (arith, (puts_all e.lines (omega arith)).place);

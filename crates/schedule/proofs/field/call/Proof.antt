@@ -5,24 +5,20 @@ use borrow.Author.Rules.{rules}
 use Rattle.schedule.proofs.field.call.Statement.{statement}
 use Rattle.schedule.proofs.field.call.Tie as tie
 
-returns : tie.Need-returns
+returns : tie.Need-returns-then-call-ne-INSERT
 unfolding high_first
 returns c =
-    let d = c.before.before in rw (ne_eqb _ 2 d.before.before.if1.true) d.call-of.ensures
+    rw (ne_eqb _ 2 c.if-call-ne-INSERT.true) c.call_of.ensures
 
-returns_2 : tie.Need-returns-2
+returns_2 : tie.Need-returns-then-long
 unfolding high_first
 returns_2 c =
-    let d = c.before.before in
-    let t = d.before.before in
-    rw (eq-eqb _ 2 t.before.if1.false, t.if2.true) d.call-of2.ensures
+    rw (eq-eqb _ 2 c.if-call-ne-INSERT.false, c.if-long.true) c.call_of-then-long.ensures
 
-returns_3 : tie.Need-returns-3
+returns_3 : tie.Need-returns
 unfolding high_first
 returns_3 c =
-    let d = c.before.before in
-    let t = d.before.before in
-    rw (eq-eqb _ 2 t.before.if1.false, t.if2.false) d.call-of3.ensures
+    rw (eq-eqb _ 2 c.if-call-ne-INSERT.false, c.if-long.false) c.call_of-2.ensures
 
 pub call_spec : {M : Type 1} → statement M
 call_spec =

@@ -5,26 +5,24 @@ use borrow.Author.Rules.{rules}
 use Rattle.schedule.proofs.field.fits.Statement.{statement}
 use Rattle.schedule.proofs.field.fits.Tie as tie
 
-returns : tie.Need-returns
+returns : tie.Need-returns-then-left-lt3
 returns c =
-    let e = c.before.before in rw (e.entry2.given.1, lt-leb (3 + e.entry2.given.0.1.0) e.before.before.args.left (omega (arith, c.if1.true)))
+    rw (c.in-Turns.is, lt-leb (3 + c.in-Turns.count) c.args.left (omega (arith, c.if-left-lt3.true)))
 
-returns_2 : tie.Need-returns-2
+returns_2 : tie.Need-returns-then-left-count
 returns_2 c =
-    let e = c.before.before.before in
-    rw (e.entry2.given.1, lt-leb (3 + e.entry2.given.0.1.0) e.before.before.args.left (omega (arith, c.before.if1.false, c.if2.true)))
+    rw (c.in-Turns.is, lt-leb (3 + c.in-Turns.count) c.args.left (omega (arith, c.if-left-lt3.false, c.if-left-count.true)))
 
-returns_3 : tie.Need-returns-3
-returns_3 c = rw c.enum_told.given.1
+returns_3 : tie.Need-returns-in-Floor
+returns_3 c = rw c.in-Floor.is
 
-returns_4 : tie.Need-returns-4
+returns_4 : tie.Need-returns-in-Call
 returns_4 c =
-    let e = c.before.before in rw e.entry.given.1 c.call_fits.ensures
+    rw c.in-Call.is c.call_fits.ensures
 
-returns_5 : tie.Need-returns-5
+returns_5 : tie.Need-returns-else-left-count
 returns_5 c =
-    let e = c.before.before.before in
-    rw (e.entry2.given.1, le-leb (3 + e.entry2.given.0.1.0) e.before.before.args.left (omega (arith, c.before.if1.false, c.if2.false)))
+    rw (c.in-Turns.is, le-leb (3 + c.in-Turns.count) c.args.left (omega (arith, c.if-left-lt3.false, c.if-left-count.false)))
 
 pub fits_spec : {M : Type 1} → statement M
 fits_spec =

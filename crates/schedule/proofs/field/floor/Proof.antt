@@ -8,17 +8,12 @@ use Rattle.schedule.proofs.field.floor.Tie as tie
 returns : tie.Need-returns
 unfolding high_first
 returns c =
-    let d4 = c.before.before in
-    let d3 = d4.before.before.before.before.before in
-    let d2 = d3.before.before.before.before in
-    let d1 = d2.before.before.before.before in
-    puts_then d1.words.ensures (puts_then d2.high-first.ensures (puts_then d3.high-first2.ensures d4.high-first3.ensures))
+    puts_then c.words-head.ensures (puts_then c.high_first-workers.ensures (puts_then c.high_first-buckets.ensures c.high_first.ensures))
 
 pub floor_spec : {M : Type 1} → statement M
 floor_spec =
     tie.close
     (tie.spec
-    (λ c. search rules)
     (λ c κs. search rules)
     (λ c κs. search rules)
     (λ c κs. search rules)

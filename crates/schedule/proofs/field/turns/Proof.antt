@@ -7,10 +7,7 @@ use Rattle.schedule.proofs.field.turns.Tie as tie
 returns : tie.Need-returns
 returns c =
     λ k.
-    let d3 = c.before.before in
-    let d2 = d3.before.before.before.before in
-    let d1 = d2.before.before.before.before in
-    rw k.1 (puts_then d1.byte.ensures (puts_then d2.high-first.ensures (d3.list.ensures k.0)))
+    rw k.1 (puts_then c.byte-tag.ensures (puts_then c.high_first-head.ensures (c.list.ensures k.0)))
 
 pub turns_spec : {M : Type 1} → statement M
 turns_spec =

@@ -3,26 +3,20 @@ use borrow.Author.Rules.{rules}
 use Rattle.schedule.proofs.field.write.Statement.{statement}
 use Rattle.schedule.proofs.field.write.Tie as tie
 
-returns : tie.Need-returns
+returns : tie.Need-returns-in-Floor
 returns c =
     λ k.
-    let d = c.before.before in
-    let e = d.before.before.before in
-    rw e.entry.given.1 d.floor.ensures
+    rw c.in-Floor.is c.floor.ensures
 
-returns_2 : tie.Need-returns-2
+returns_2 : tie.Need-returns-in-Call
 returns_2 c =
     λ k.
-    let d = c.before.before in
-    let e = d.before.before.before in
-    rw e.entry2.given.1 d.call.ensures
+    rw c.in-Call.is c.call.ensures
 
-returns_3 : tie.Need-returns-3
+returns_3 : tie.Need-returns-in-Turns
 returns_3 c =
     λ k.
-    let d = c.before.before in
-    let e = d.before.before.before in
-    rw e.entry3.given.1 (d.turns.ensures (rw e.entry3.given.1 at k))
+    rw c.in-Turns.is (c.turns.ensures (rw c.in-Turns.is at k))
 
 pub write_spec : {M : Type 1} → statement M
 write_spec =

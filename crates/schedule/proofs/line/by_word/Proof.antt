@@ -10,59 +10,47 @@ use borrow.Author.Rules.{rules}
 use Rattle.schedule.proofs.line.by_word.Statement.{statement}
 use Rattle.schedule.proofs.line.by_word.Tie as tie
 
-returns : tie.Need-returns
+returns : tie.Need-returns-then-spells
 unfolding line_by bytes
 returns c =
-    let s = c.before.before in
-    line_of c.floor.ensures (rw (s.before.before.if1.true, sym s.spells.ensures ∙ c.before.if2.true))
+    line_of c.floor.ensures (rw (c.if-first.true, sym c.spells.ensures ∙ c.if-spells.true))
 
-returns_2 : tie.Need-returns-2
+returns_2 : tie.Need-returns-then-first
 unfolding line_by bytes
 returns_2 c =
-    let m = c.before in
-    let s = m.before.before in
-    line_wrong (c.wrong.ensures ∙ ap (λ (g : Got). nothing g.at g.what) m.missing.ensures) (λ e. absurd (omega arith))
-    (rw (s.before.before.if1.true, sym s.spells.ensures ∙ m.before.if2.false))
+    line_wrong (c.wrong.ensures ∙ ap (λ (g : Got). nothing g.at g.what) c.missing.ensures) (λ e. absurd (omega arith))
+    (rw (c.if-first.true, sym c.spells.ensures ∙ c.if-spells.false))
 
-returns_3 : tie.Need-returns-3
+returns_3 : tie.Need-returns-then-spells-2
 unfolding line_by bytes
 returns_3 c =
-    let s = c.before.before in
-    line_of c.call.ensures (rw (s.before.before.if1.false, sym s.spells2.ensures ∙ c.before.if3.true))
+    line_of c.call.ensures (rw (c.if-first.false, sym c.spells-2.ensures ∙ c.if-spells-2.true))
 
-returns_4 : tie.Need-returns-4
+returns_4 : tie.Need-returns-then-spells-3
 unfolding line_by bytes
 returns_4 c =
-    let u = c.before.before in
-    let s = u.before.before.before in
     line_of c.turns.ensures
-    (rw (s.before.before.if1.false, sym s.spells2.ensures ∙ u.before.before.if3.false, sym u.spells3.ensures ∙ c.before.if4.true))
+    (rw (c.if-first.false, sym c.spells-2.ensures ∙ c.if-spells-2.false, sym c.spells-3.ensures ∙ c.if-spells-3.true))
 
-returns_5 : tie.Need-returns-5
+returns_5 : tie.Need-returns
 unfolding line_by bytes
 returns_5 c =
-    let m = c.before in
-    let u = m.before.before in
-    let s = u.before.before.before in
-    line_wrong (c.wrong2.ensures ∙ ap (λ (g : Got). nothing g.at g.what) m.missing2.ensures) (λ e. absurd (omega arith))
-    (rw (s.before.before.if1.false, sym s.spells2.ensures ∙ u.before.before.if3.false, sym u.spells3.ensures ∙ m.before.if4.false))
+    line_wrong (c.wrong-2.ensures ∙ ap (λ (g : Got). nothing g.at g.what) c.missing-2.ensures) (λ e. absurd (omega arith))
+    (rw (c.if-first.false, sym c.spells-2.ensures ∙ c.if-spells-2.false, sym c.spells-3.ensures ∙ c.if-spells-3.false))
 
 pub by_word_spec : {M : Type 1} → statement M
 by_word_spec =
     tie.close
     (tie.spec
-    (λ c. search rules)
     (λ c κs. search rules)
     (λ c κs. search rules)
     returns
     (λ c κs. search rules)
     (λ c κs. search rules)
     returns_2
-    (λ c. search rules)
     (λ c κs. search rules)
     (λ c κs. search rules)
     returns_3
-    (λ c. search rules)
     (λ c κs. search rules)
     (λ c κs. search rules)
     returns_4

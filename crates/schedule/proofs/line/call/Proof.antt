@@ -8,35 +8,30 @@ use borrow.Author.Rules.{rules}
 use Rattle.schedule.proofs.line.call.Statement.{statement}
 use Rattle.schedule.proofs.line.call.Tie as tie
 
-returns : tie.Need-returns
+returns : tie.Need-returns-then-worker-ne0
 unfolding call_line bytes
 returns c =
-    let e1 = c.before in
-    let t1 = e1.before.before.number.ensures.0 in
-    said_wrong c.wrong.ensures e1.if1.true
-    (rw (← t1.is, ne_eqb _ 0 e1.if1.true))
+    let t1 = c.number-worker.ensures.0 in
+    said_wrong c.wrong.ensures c.if-worker-ne0.true
+    (rw (← t1.is, ne_eqb _ 0 c.if-worker-ne0.true))
     t1.reach
 
-returns_2 : tie.Need-returns-2
+returns_2 : tie.Need-returns-then-kind-ne0
 unfolding call_line bytes
 returns_2 c =
-    let e2 = c.before in
-    let t2 = e2.before.before.verb.ensures in
-    let e1 = e2.before.before.before in
-    let t1 = e1.before.before.number.ensures.0 in
-    said_wrong c.wrong2.ensures e2.if2.true
-    (rw (← t1.is, eq-eqb _ 0 e1.if1.false, ← t2.is, ne_eqb _ 0 e2.if2.true))
+    let t2 = c.verb-kind.ensures in
+    let t1 = c.number-worker.ensures.0 in
+    said_wrong c.wrong-then-kind-ne0.ensures c.if-kind-ne0.true
+    (rw (← t1.is, eq-eqb _ 0 c.if-worker-ne0.false, ← t2.is, ne_eqb _ 0 c.if-kind-ne0.true))
     (reach_then t1.reach t2.reach)
 
-returns_3 : tie.Need-returns-3
+returns_3 : tie.Need-returns
 unfolding call_line bytes
 returns_3 c =
-    let e2 = c.before.before in
-    let t2 = e2.before.before.verb.ensures in
-    let e1 = e2.before.before.before in
-    let t1 = e1.before.before.number.ensures.0 in
+    let t2 = c.verb-kind.ensures in
+    let t1 = c.number-worker.ensures.0 in
     record {
-      is = rw (← t1.is, eq-eqb _ 0 e1.if1.false, ← t2.is, eq-eqb _ 0 e2.if2.false) c.by_kind.ensures.is;
+      is = rw (← t1.is, eq-eqb _ 0 c.if-worker-ne0.false, ← t2.is, eq-eqb _ 0 c.if-kind-ne0.false) c.by_kind.ensures.is;
       counts = c.by_kind.ensures.counts;
       reach = (reach_then t1.reach (reach_then t2.reach c.by_kind.ensures.reach));
     }

@@ -8,22 +8,20 @@ use borrow.Author.Rules.{rules}
 use Rattle.schedule.proofs.line.long.Statement.{statement}
 use Rattle.schedule.proofs.line.long.Tie as tie
 
-returns : tie.Need-returns
+returns : tie.Need-returns-then-named-ne0
 unfolding long_line bytes
 returns c =
-    let e1 = c.before in
-    let t1 = e1.before.before.keyword.ensures in
-    said_wrong c.wrong.ensures e1.if1.true
-    (rw (← t1.is, ne_eqb _ 0 e1.if1.true))
+    let t1 = c.keyword-named.ensures in
+    said_wrong c.wrong.ensures c.if-named-ne0.true
+    (rw (← t1.is, ne_eqb _ 0 c.if-named-ne0.true))
     t1.reach
 
-returns_2 : tie.Need-returns-2
+returns_2 : tie.Need-returns
 unfolding long_line bytes
 returns_2 c =
-    let e1 = c.before in
-    let t1 = e1.before.before.keyword.ensures in
+    let t1 = c.keyword-named.ensures in
     record {
-      is = rw (← t1.is, eq-eqb _ 0 e1.if1.false) c.ticket.ensures.is;
+      is = rw (← t1.is, eq-eqb _ 0 c.if-named-ne0.false) c.ticket.ensures.is;
       counts = c.ticket.ensures.counts;
       reach = (reach_then t1.reach c.ticket.ensures.reach);
     }
@@ -32,7 +30,6 @@ pub long_spec : {M : Type 1} → statement M
 long_spec =
     tie.close
     (tie.spec
-    (λ c. search rules)
     (λ c κs. search rules)
     (λ c κs. search rules)
     returns

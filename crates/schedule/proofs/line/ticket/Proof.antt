@@ -7,22 +7,20 @@ use borrow.Author.Rules.{rules}
 use Rattle.schedule.proofs.line.ticket.Statement.{statement}
 use Rattle.schedule.proofs.line.ticket.Tie as tie
 
-returns : tie.Need-returns
+returns : tie.Need-returns-then-ticket-ne0
 unfolding ticket_line bytes
 returns c =
-    let e1 = c.before in
-    let t1 = e1.before.before.number.ensures.0 in
-    said_wrong c.wrong.ensures e1.if1.true
-    (rw (← t1.is, ne_eqb _ 0 e1.if1.true))
+    let t1 = c.number-ticket.ensures.0 in
+    said_wrong c.wrong.ensures c.if-ticket-ne0.true
+    (rw (← t1.is, ne_eqb _ 0 c.if-ticket-ne0.true))
     t1.reach
 
-returns_2 : tie.Need-returns-2
+returns_2 : tie.Need-returns
 unfolding ticket_line bytes
 returns_2 c =
-    let e1 = c.before in
-    let t1 = e1.before.before.number.ensures.0 in
+    let t1 = c.number-ticket.ensures.0 in
     record {
-      is = rw (← t1.is, eq-eqb _ 0 e1.if1.false, ← c.takes-eight.ensures);
+      is = rw (← t1.is, eq-eqb _ 0 c.if-ticket-ne0.false, ← c.takes_eight-eight.ensures);
       counts = tt;
       reach = t1.reach;
     }

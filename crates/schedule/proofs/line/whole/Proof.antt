@@ -6,28 +6,25 @@ use borrow.Author.Rules.{rules}
 use Rattle.schedule.proofs.line.whole.Statement.{statement}
 use Rattle.schedule.proofs.line.whole.Tie as tie
 
-returns : tie.Need-returns
+returns : tie.Need-returns-then-line-ne0
 returns c =
-    let l = c.before.before.by_word_lem.ensures in
-    record { is = rw (← l.is, ne_eqb _ 0 c.if1.true); counts = l.counts; reach = l.reach }
+    let l = c.by_word-line.ensures in
+    record { is = rw (← l.is, ne_eqb _ 0 c.if-line-ne0.true); counts = l.counts; reach = l.reach }
 
-returns_2 : tie.Need-returns-2
+returns_2 : tie.Need-returns-then-end-ne0
 returns_2 c =
-    let t = c.before in
-    let n = t.before.before in
-    let l = n.before.before.before.by_word_lem.ensures in
-    line_wrong c.wrong.ensures t.if2.true
-    (rw (← l.is, eq-eqb _ 0 n.before.if1.false, ← n.line_end.ensures.is, ne_eqb _ 0 t.if2.true))
+    let l = c.by_word-line.ensures in
+    line_wrong c.wrong.ensures c.if-end-ne0.true
+    (rw (← l.is, eq-eqb _ 0 c.if-line-ne0.false, ← c.line_end-end.ensures.is, ne_eqb _ 0 c.if-end-ne0.true))
 
-returns_3 : tie.Need-returns-3
+returns_3 : tie.Need-returns
 returns_3 c =
-    let n = c.before.before in
-    let so = n.before.if1.false in
-    let l = n.before.before.before.by_word_lem.ensures in
+    let so = c.if-line-ne0.false in
+    let l = c.by_word-line.ensures in
     record {
-      is = rw (← l.is, eq-eqb _ 0 so, ← n.line_end.ensures.is, eq-eqb _ 0 c.if2.false);
+      is = rw (← l.is, eq-eqb _ 0 so, ← c.line_end-end.ensures.is, eq-eqb _ 0 c.if-end-ne0.false);
       counts = l.counts;
-      reach = λ here. reach_then (l.reach so) n.line_end.ensures.reach;
+      reach = λ here. reach_then (l.reach so) c.line_end-end.ensures.reach;
     }
 
 pub whole_spec : {M : Type 1} → statement M

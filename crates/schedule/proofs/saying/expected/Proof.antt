@@ -15,103 +15,101 @@ key :
     {out later : List ℕ} {at r what : ℕ} (k : ℕ) → what ≡ k → Puts out at (expected k) later r → Puts out at (expected what) later r
 key k is put = rw is put
 
-returns : tie.Need-returns
+returns : tie.Need-returns-in-1
 unfolding expected bytes
 returns c =
-    let d = c.before.before in key 1 d.before.before.before.match.keys1 d.words.ensures
+    key 1 c.in-1.is c.words.ensures
 
-returns_2 : tie.Need-returns-2
+returns_2 : tie.Need-returns-in-2
 unfolding expected bytes
 returns_2 c =
-    let d = c.before.before in key 2 d.before.before.before.match.keys2 d.words2.ensures
+    key 2 c.in-2.is c.words-in-2.ensures
 
-returns_3 : tie.Need-returns-3
+returns_3 : tie.Need-returns-in-3
 unfolding expected bytes
 returns_3 c =
-    let d = c.before.before in key 3 d.before.before.before.match.keys3 d.words3.ensures
+    key 3 c.in-3.is c.words-in-3.ensures
 
-returns_4 : tie.Need-returns-4
+returns_4 : tie.Need-returns-in-4
 unfolding expected bytes
 returns_4 c =
-    let d = c.before.before in key 4 d.before.before.before.match.keys4 d.words4.ensures
+    key 4 c.in-4.is c.words-in-4.ensures
 
-returns_5 : tie.Need-returns-5
+returns_5 : tie.Need-returns-in-5
 unfolding expected bytes
 returns_5 c =
-    let d = c.before.before in key 5 d.before.before.before.match.keys5 d.words5.ensures
+    key 5 c.in-5.is c.words-in-5.ensures
 
-returns_6 : tie.Need-returns-6
+returns_6 : tie.Need-returns-in-6
 unfolding expected bytes
 returns_6 c =
-    let d = c.before.before in key 6 d.before.before.before.match.keys6 d.words6.ensures
+    key 6 c.in-6.is c.words-in-6.ensures
 
-returns_7 : tie.Need-returns-7
+returns_7 : tie.Need-returns-in-7
 unfolding expected bytes
 returns_7 c =
-    let d = c.before.before in key 7 d.before.before.before.match.keys7 d.words7.ensures
+    key 7 c.in-7.is c.words-in-7.ensures
 
-returns_8 : tie.Need-returns-8
+returns_8 : tie.Need-returns-in-8
 unfolding expected bytes
 returns_8 c =
-    let d = c.before.before in key 8 d.before.before.before.match.keys8 d.words8.ensures
+    key 8 c.in-8.is c.words-in-8.ensures
 
-returns_9 : tie.Need-returns-9
+returns_9 : tie.Need-returns-in-9
 unfolding expected bytes
 returns_9 c =
-    let d = c.before.before in key 9 d.before.before.before.match.keys9 d.words9.ensures
+    key 9 c.in-9.is c.words-in-9.ensures
 
-returns_10 : tie.Need-returns-10
+returns_10 : tie.Need-returns-in-10
 unfolding expected bytes
 returns_10 c =
-    let d = c.before.before in key 10 d.before.before.before.match.keys10 d.words10.ensures
+    key 10 c.in-10.is c.words-in-10.ensures
 
-returns_11 : tie.Need-returns-11
+returns_11 : tie.Need-returns-in-11
 unfolding expected bytes
 returns_11 c =
-    let d = c.before.before in key 11 d.before.before.before.match.keys11 d.words11.ensures
+    key 11 c.in-11.is c.words-in-11.ensures
 
-returns_12 : tie.Need-returns-12
+returns_12 : tie.Need-returns-in-12
 unfolding expected bytes
 returns_12 c =
-    let d = c.before.before in key 12 d.before.before.before.match.keys12 d.words12.ensures
+    key 12 c.in-12.is c.words-in-12.ensures
 
-returns_13 : tie.Need-returns-13
+returns_13 : tie.Need-returns-in-13
 unfolding expected bytes
 returns_13 c =
-    let d = c.before.before in key 13 d.before.before.before.match.keys13 d.words13.ensures
+    key 13 c.in-13.is c.words-in-13.ensures
 
-returns_14 : tie.Need-returns-14
+returns_14 : tie.Need-returns-in-14
 unfolding expected bytes
 returns_14 c =
-    let d = c.before.before in key 14 d.before.before.before.match.keys14 d.words14.ensures
+    key 14 c.in-14.is c.words-in-14.ensures
 
-returns_15 : tie.Need-returns-15
+returns_15 : tie.Need-returns-in-15
 unfolding expected bytes
 returns_15 c =
-    let d = c.before.before in key 15 d.before.before.before.match.keys15 d.words15.ensures
+    key 15 c.in-15.is c.words-in-15.ensures
 
-returns_16 : tie.Need-returns-16
+returns_16 : tie.Need-returns-in-16
 unfolding expected bytes
 returns_16 c =
-    let d = c.before.before in key 16 d.before.before.before.match.keys16 d.words16.ensures
+    key 16 c.in-16.is c.words-in-16.ensures
 
-returns_17 : tie.Need-returns-17
+returns_17 : tie.Need-returns-in-17
 unfolding expected bytes
 returns_17 c =
-    let d = c.before.before in key 17 d.before.before.before.match.keys17 d.words17.ensures
+    key 17 c.in-17.is c.words-in-17.ensures
 
-returns_18 : tie.Need-returns-18
+returns_18 : tie.Need-returns-in-18
 unfolding expected bytes
 returns_18 c =
-    let d = c.before.before in key 18 d.before.before.before.match.keys18 d.words18.ensures
+    key 18 c.in-18.is c.words-in-18.ensures
 
-returns_19 : tie.Need-returns-19
+returns_19 : tie.Need-returns-in_default
 unfolding bytes
 returns_19 c =
-    let d = c.before.before in
-    let m = d.before.before.before in
-    let a = m.before.before.args in
-    let other = m.match.rest in
+    let a = c.args in
+    let other = c.in_default.in_default-own.rest in
     rw (← expected_other a.what
     other.0.0.0.0.0.0.0.0.0.0.0.0.0.0.0.0.0.1 other.0.0.0.0.0.0.0.0.0.0.0.0.0.0.0.0.1 other.0.0.0.0.0.0.0.0.0.0.0.0.0.0.0.1
     other.0.0.0.0.0.0.0.0.0.0.0.0.0.0.1 other.0.0.0.0.0.0.0.0.0.0.0.0.0.1 other.0.0.0.0.0.0.0.0.0.0.0.0.1
@@ -119,49 +117,30 @@ returns_19 c =
     other.0.0.0.0.0.0.0.0.1 other.0.0.0.0.0.0.0.1 other.0.0.0.0.0.0.1
     other.0.0.0.0.0.1 other.0.0.0.0.1 other.0.0.0.1
     other.0.0.1 other.0.1 other.1)
-    d.words19.ensures
+    c.words-in_default.ensures
 
 pub expected_spec : {M : Type 1} → statement M
 expected_spec =
     tie.close
     (tie.spec
-    (λ c. search rules)
     (λ c κs. search rules)
-    (λ c. search rules)
     (λ c κs. search rules)
-    (λ c. search rules)
     (λ c κs. search rules)
-    (λ c. search rules)
     (λ c κs. search rules)
-    (λ c. search rules)
     (λ c κs. search rules)
-    (λ c. search rules)
     (λ c κs. search rules)
-    (λ c. search rules)
     (λ c κs. search rules)
-    (λ c. search rules)
     (λ c κs. search rules)
-    (λ c. search rules)
     (λ c κs. search rules)
-    (λ c. search rules)
     (λ c κs. search rules)
-    (λ c. search rules)
     (λ c κs. search rules)
-    (λ c. search rules)
     (λ c κs. search rules)
-    (λ c. search rules)
     (λ c κs. search rules)
-    (λ c. search rules)
     (λ c κs. search rules)
-    (λ c. search rules)
     (λ c κs. search rules)
-    (λ c. search rules)
     (λ c κs. search rules)
-    (λ c. search rules)
     (λ c κs. search rules)
-    (λ c. search rules)
     (λ c κs. search rules)
-    (λ c. search rules)
     (λ c κs. search rules)
     (λ c. search rules)
     returns

@@ -6,34 +6,28 @@ use borrow.Author.Rules.{rules}
 use Rattle.schedule.proofs.token.either.Statement.{statement}
 use Rattle.schedule.proofs.token.either.Tie as tie
 
-returns : tie.Need-returns
+returns : tie.Need-returns-then-spells
 unfolding either_at
 returns c =
-    let s = c.before.before in
-    let w = s.before.word.ensures in
+    let w = c.word-w.ensures in
     let e = c.found.ensures in
-    found_end w (e ∙ (rw (← w.is, sym s.spells.ensures ∙ c.before.if1.true))) (ap (λ (g : Got). g.at) e)
+    found_end w (e ∙ (rw (← w.is, sym c.spells.ensures ∙ c.if-spells.true))) (ap (λ (g : Got). g.at) e)
 
-returns_2 : tie.Need-returns-2
+returns_2 : tie.Need-returns-then-spells-2
 unfolding either_at
 returns_2 c =
-    let t = c.before.before in
-    let s = t.before.before in
-    let w = s.before.word.ensures in
-    let e = c.found2.ensures in
-    found_end w (e ∙ (rw (← w.is, sym s.spells.ensures ∙ t.before.if1.false, sym t.spells2.ensures ∙ c.before.if2.true))) (ap (λ (g : Got). g.at) e)
+    let w = c.word-w.ensures in
+    let e = c.found-then-spells-2.ensures in
+    found_end w (e ∙ (rw (← w.is, sym c.spells.ensures ∙ c.if-spells.false, sym c.spells-2.ensures ∙ c.if-spells-2.true))) (ap (λ (g : Got). g.at) e)
 
-returns_3 : tie.Need-returns-3
+returns_3 : tie.Need-returns
 unfolding either_at
 returns_3 c =
-    let b = c.before in
-    let t = b.before.before in
-    let s = t.before.before in
-    let w = s.before.word.ensures in
+    let w = c.word-w.ensures in
     let e = c.missing.ensures in
-    let place = b.span.ensures in
+    let place = c.span-place.ensures in
     found_blanks
-    (e ∙ (rw (place, ← w.is, sym s.spells.ensures ∙ t.before.if1.false, sym t.spells2.ensures ∙ b.before.if2.false)))
+    (e ∙ (rw (place, ← w.is, sym c.spells.ensures ∙ c.if-spells.false, sym c.spells-2.ensures ∙ c.if-spells-2.false)))
     (ap (λ (g : Got). g.at) e ∙ place)
 
 pub either_spec : {M : Type 1} → statement M

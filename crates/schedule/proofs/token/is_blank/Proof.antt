@@ -2,13 +2,13 @@ use Rattle.mark.proofs.Choices.{choices}
 use Rattle.schedule.proofs.token.is_blank.Statement.{statement}
 use Rattle.schedule.proofs.token.is_blank.Tie as tie
 
-returns : tie.Need-returns
+returns : tie.Need-returns-then-byte-eq32
 returns c = search choices
 
-returns_2 : tie.Need-returns-2
+returns_2 : tie.Need-returns-then-byte-eq9
 returns_2 c = search choices
 
-returns_3 : tie.Need-returns-3
+returns_3 : tie.Need-returns
 returns_3 c = search choices
 
 pub is_blank_spec : {M : Type 1} → statement M

@@ -7,19 +7,19 @@ use borrow.Author.Rules.{rules}
 use Rattle.schedule.proofs.token.line_end.Statement.{statement}
 use Rattle.schedule.proofs.token.line_end.Tie as tie
 
-returns : tie.Need-returns
+returns : tie.Need-returns-then-w
 unfolding line_end_at
 returns c =
-    let w = c.before.before.before.word.ensures in
+    let w = c.word-w.ensures in
     let e = c.found.ensures in
-    found_start w (e ∙ (rw (← w.is, eq-eqb _ _ c.before.if1.true))) (ap (λ (g : Got). g.at) e)
+    found_start w (e ∙ (rw (← w.is, eq-eqb _ _ c.if-w.true))) (ap (λ (g : Got). g.at) e)
 
-returns_2 : tie.Need-returns-2
+returns_2 : tie.Need-returns
 unfolding line_end_at
 returns_2 c =
-    let w = c.before.before.before.word.ensures in
+    let w = c.word-w.ensures in
     let e = c.missing.ensures in
-    found_start w (e ∙ (rw (← w.is, ne_eqb _ _ c.before.if1.false))) (ap (λ (g : Got). g.at) e)
+    found_start w (e ∙ (rw (← w.is, ne_eqb _ _ c.if-w.false))) (ap (λ (g : Got). g.at) e)
 
 pub line_end_spec : {M : Type 1} → statement M
 line_end_spec =

@@ -10,47 +10,42 @@ use Rattle.schedule.proofs.Letters.{said_over, said_short, said_other, said_next
 use Rattle.schedule.proofs.token.spells.Statement.{statement}
 use Rattle.schedule.proofs.token.spells.Tie as tie
 
-abbrev invariant_loop : tie.invariant_loop
+abbrev invariant_loop : tie.invariant-loop-at
 invariant_loop text start end said at₀ i₀ at i =
     (same (spelled text at end) (drop i said) ≡ same (spelled text start end) said) × (i ≤ length said)
 
-abbrev decreases_loop : tie.decreases_loop
+abbrev decreases_loop : tie.decreases-loop-at
 decreases_loop text start end said at₀ i₀ at i = end - at
 
-returns : tie.Need-returns invariant_loop decreases_loop
+returns : tie.Need-returns-then-end-at invariant_loop decreases_loop
 returns c =
-    let l = c.before.loop in
-    let a = c.before.before.before.before.args in
-    said_over a.text.now a.said.now l.at a.end l.i (part_over a.text.now l.at a.end c.if1.true) l.invariant.1 ∙ l.invariant.0
+    let l = c.loop-at in
+    let a = c.args in
+    said_over a.text.now a.said.now l.at a.end l.i (part_over a.text.now l.at a.end c.if-end-at.true) l.invariant.1 ∙ l.invariant.0
 
-returns_2 : tie.Need-returns-2 invariant_loop decreases_loop
+returns_2 : tie.Need-returns-then-text-at invariant_loop decreases_loop
 returns_2 c =
-    let l = c.before.before.loop in
-    let a = c.before.before.before.before.before.args in
-    said_over a.text.now a.said.now l.at a.end l.i (part_past a.text.now l.at a.end c.if2.true) l.invariant.1 ∙ l.invariant.0
+    let l = c.loop-at in
+    let a = c.args in
+    said_over a.text.now a.said.now l.at a.end l.i (part_past a.text.now l.at a.end c.if-text-at.true) l.invariant.1 ∙ l.invariant.0
 
-returns_3 : tie.Need-returns-3 invariant_loop decreases_loop
+returns_3 : tie.Need-returns-then-i-said invariant_loop decreases_loop
 returns_3 c =
-    let e = c.before in
-    let l = e.before.before.loop in
-    let a = e.before.before.before.before.before.args in
-    said_short a.text.now a.said.now l.at a.end l.i e.before.if1.false e.if2.false c.if3.true ∙ l.invariant.0
+    let l = c.loop-at in
+    let a = c.args in
+    said_short a.text.now a.said.now l.at a.end l.i c.if-end-at.false c.if-text-at.false c.if-i-said.true ∙ l.invariant.0
 
-returns_4 : tie.Need-returns-4 invariant_loop decreases_loop
+returns_4 : tie.Need-returns-then-small-said invariant_loop decreases_loop
 returns_4 c =
-    let s = c.before.before in
-    let e = s.before.before.before in
-    let l = e.before.before.loop in
-    let a = e.before.before.before.before.before.args in
-    said_other a.text.now a.said.now l.at a.end l.i e.before.if1.false e.if2.false (omega arith) (λ is. c.if4.true (s.small.ensures ∙ is)) ∙ l.invariant.0
+    let l = c.loop-at in
+    let a = c.args in
+    said_other a.text.now a.said.now l.at a.end l.i c.if-end-at.false c.if-text-at.false (omega arith) (λ is. c.if-small-said.true (c.small.ensures ∙ is)) ∙ l.invariant.0
 
-loop_again : tie.Need-loop-preserved invariant_loop decreases_loop
+loop_again : tie.Need-loop-at-preserved invariant_loop decreases_loop
 loop_again c =
-    let s = c.before.before in
-    let e = s.before.before.before in
-    let l = e.before.before.loop in
-    let a = e.before.before.before.before.before.args in (
-      sym (said_next a.text.now a.said.now l.at a.end l.i e.before.if1.false e.if2.false (omega arith) (sym s.small.ensures ∙ c.if4.false)) ∙ l.invariant.0,
+    let l = c.loop-at in
+    let a = c.args in (
+      sym (said_next a.text.now a.said.now l.at a.end l.i c.if-end-at.false c.if-text-at.false (omega arith) (sym c.small.ensures ∙ c.if-small-said.false)) ∙ l.invariant.0,
       omega arith,
     )
 

@@ -7,11 +7,10 @@ use Rattle.schedule.proofs.token.word.Tie as tie
 returns : tie.Need-returns
 unfolding word_at
 returns c =
-    let s = c.before in
     record {
-      is = rw (c.span.ensures, s.word-start.ensures);
-      start = rw s.word-start.ensures (reach_start _ _);
-      end = rw c.span.ensures (reach_span 2 _ _);
+      is = rw (c.span-end.ensures, c.word_start-start.ensures);
+      start = rw c.word_start-start.ensures (reach_start _ _);
+      end = rw c.span-end.ensures (reach_span 2 _ _);
     }
 
 pub word_spec : {M : Type 1} → statement M

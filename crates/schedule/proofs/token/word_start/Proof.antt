@@ -7,7 +7,7 @@ use Rattle.schedule.proofs.token.word_start.Tie as tie
 
 returns : tie.Need-returns
 unfolding word_start
-returns c = c.past-comment.ensures ∙ ap (λ (n : ℕ). past_comment c.before.before.before.args.text.now n) c.before.span.ensures
+returns c = c.past_comment.ensures ∙ ap (λ (n : ℕ). past_comment c.args.text.now n) c.span-next.ensures
 
 pub word_start_spec : {M : Type 1} → statement M
 word_start_spec = tie.close (tie.spec (λ c κs. search rules) (λ c κs. search rules) returns)

@@ -13,7 +13,7 @@ use Rattle.schedule.proofs.Turning.{Going, going_starts, going_over, going_stops
 use Rattle.schedule.proofs.turns.count.Statement.{statement}
 use Rattle.schedule.proofs.turns.count.Tie as tie
 
-abbrev invariant_loop : tie.invariant_loop
+abbrev invariant_loop : tie.invariant-loop-w
 invariant_loop text at from₀ count₀ from count =
     (so_far : List ℕ)
     × Going text (turns_from (length text) text at) so_far from
@@ -21,16 +21,14 @@ invariant_loop text at from₀ count₀ from count =
     × (count ≤ 32768)
     × Reaches text at from
 
-abbrev decreases_loop : tie.decreases_loop
+abbrev decreases_loop : tie.decreases-loop-w
 decreases_loop text at from₀ count₀ from count = length text - from
 
-returns : tie.Need-returns invariant_loop decreases_loop
+returns : tie.Need-returns-then-w invariant_loop decreases_loop
 returns c =
-    let t = c.before in
-    let w = t.before.before in
-    let l = w.before.loop.invariant in
+    let l = c.loop-w.invariant in
     let e = c.found.ensures in
-    let all = going_over l.1 w.word.ensures t.if1.true in
+    let all = going_over l.1 c.word-w.ensures c.if-w.true in
     record {
       at = ap (λ (x : Got). x.at) e ∙ ap (λ (x : Line). x.at) all;
       what = ap (λ (x : Got). x.what) e ∙ ap (λ (x : Line). x.what) all;
@@ -39,54 +37,42 @@ returns c =
           let value = ap (λ (x : Got). x.value) e in
           let long = ap (λ (x : Line). length x.bytes) all in
           omega (arith, value, long, l.2));
-      reach = rw (ap (λ (x : Got). x.at) e) (reach_then l.4 w.word.ensures.start);
+      reach = rw (ap (λ (x : Got). x.at) e) (reach_then l.4 c.word-w.ensures.start);
     }
 
-returns_2 : tie.Need-returns-2 invariant_loop decreases_loop
+returns_2 : tie.Need-returns-then-worker-ne0 invariant_loop decreases_loop
 returns_2 c =
-    let t = c.before in
-    let n = t.before.before in
-    let w = n.before.before.before in
-    let l = w.before.loop.invariant in
+    let l = c.loop-w.invariant in
     let e = c.missing.ensures in
-    let all = going_stops l.1 w.word.ensures n.before.if1.false n.number.ensures.0 t.if2.true in
+    let all = going_stops l.1 c.word-w.ensures c.if-w.false c.number-worker.ensures.0 c.if-worker-ne0.true in
     record {
       at = ap (λ (x : Got). x.at) e ∙ ap (λ (x : Line). x.at) all;
       what = ap (λ (x : Got). x.what) e ∙ ap (λ (x : Line). x.what) all;
       stops = λ some. ap (λ (x : Got). wrong x.at x.what) e ∙ all;
       tally = ap (λ (x : Got). min x.value 16385) e ∙ ap (λ (x : Line). min (length x.bytes) 16385) all;
-      reach = rw (ap (λ (x : Got). x.at) e) (reach_then l.4 n.number.ensures.0.reach);
+      reach = rw (ap (λ (x : Got). x.at) e) (reach_then l.4 c.number-worker.ensures.0.reach);
     }
 
-returns_3 : tie.Need-returns-3 invariant_loop decreases_loop
+returns_3 : tie.Need-returns-then-often-ne0 invariant_loop decreases_loop
 returns_3 c =
-    let t = c.before in
-    let o = t.before.before in
-    let n = o.before.before.before in
-    let w = n.before.before.before in
-    let l = w.before.loop.invariant in
-    let e = c.missing2.ensures in
-    let all = going_stops_at l.1 w.word.ensures n.before.if1.false n.number.ensures.0 o.before.if2.false o.times.ensures.0 t.if3.true in
+    let l = c.loop-w.invariant in
+    let e = c.missing-then-often-ne0.ensures in
+    let all = going_stops_at l.1 c.word-w.ensures c.if-w.false c.number-worker.ensures.0 c.if-worker-ne0.false c.times-often.ensures.0 c.if-often-ne0.true in
     record {
       at = ap (λ (x : Got). x.at) e ∙ ap (λ (x : Line). x.at) all;
       what = ap (λ (x : Got). x.what) e ∙ ap (λ (x : Line). x.what) all;
       stops = λ some. ap (λ (x : Got). wrong x.at x.what) e ∙ all;
       tally = ap (λ (x : Got). min x.value 16385) e ∙ ap (λ (x : Line). min (length x.bytes) 16385) all;
-      reach = rw (ap (λ (x : Got). x.at) e) (reach_then l.4 (reach_then n.number.ensures.0.reach o.times.ensures.0.reach));
+      reach = rw (ap (λ (x : Got). x.at) e) (reach_then l.4 (reach_then c.number-worker.ensures.0.reach c.times-often.ensures.0.reach));
     }
 
 -- the place behind this worker's turns
 ahead :
-    (c : tie.Else3 invariant_loop decreases_loop)
-    → let o = c.before.before in
-    let l = o.before.before.before.before.before.before.before in
-    (l.loop.from + 1 ≤ o.times.result.at) × (l.loop.from + 1 ≤ length l.before.before.args.text.now)
+    (c : tie.Else-often-ne0 invariant_loop decreases_loop)
+    → (c.loop-w.from + 1 ≤ c.times-often.result.at) × (c.loop-w.from + 1 ≤ length c.args.text.now)
 ahead c =
-    let o = c.before.before in
-    let n = o.before.before.before in
-    let w = n.before.before.before in
     let a =
-    going_ahead w.before.loop.invariant.1 w.word.ensures n.before.if1.false n.number.ensures.0 o.before.if2.false o.times.ensures.0 in
+    going_ahead c.loop-w.invariant.1 c.word-w.ensures c.if-w.false c.number-worker.ensures.0 c.if-worker-ne0.false c.times-often.ensures.0 in
     (omega (arith, a.0), omega (arith, a.1))
 
 -- the turns so far, with this worker's
@@ -94,40 +80,33 @@ longer : (so_far : List ℕ) (often worker : ℕ) → length (so_far ++ replicat
 longer so_far often worker = length-append so_far (replicate often worker) ∙ ap (λ (n : ℕ). length so_far + n) (length-replicate often worker)
 
 again :
-    (c : tie.Else3 invariant_loop decreases_loop) (count : ℕ)
-    → let o = c.before.before in
-    let l = o.before.before.before.before.before.before.before in
-    let a = l.before.before.args in
-    min count 16385 ≡ min (length l.loop.invariant.0 + o.times.result.value) 16385
+    (c : tie.Else-often-ne0 invariant_loop decreases_loop) (count : ℕ)
+    → let a = c.args in
+    min count 16385 ≡ min (length c.loop-w.invariant.0 + c.times-often.result.value) 16385
     → count ≤ 32768
     → (so_far : List ℕ)
-    × Going a.text.now (turns_from (length a.text.now) a.text.now a.at) so_far o.times.result.at
+    × Going a.text.now (turns_from (length a.text.now) a.text.now a.at) so_far c.times-often.result.at
     × (min count 16385 ≡ min (length so_far) 16385)
     × (count ≤ 32768)
-    × Reaches a.text.now a.at o.times.result.at
+    × Reaches a.text.now a.at c.times-often.result.at
 again c count tally small =
-    let o = c.before.before in
-    let n = o.before.before.before in
-    let w = n.before.before.before in
-    let l = w.before.loop.invariant in (
-      l.0 ++ replicate o.times.result.value n.number.result.value,
-      going_on l.1 w.word.ensures n.before.if1.false n.number.ensures.0 o.before.if2.false o.times.ensures.0 c.if3.false,
-      rw (longer l.0 o.times.result.value n.number.result.value) tally,
+    let l = c.loop-w.invariant in (
+      l.0 ++ replicate c.times-often.result.value c.number-worker.result.value,
+      going_on l.1 c.word-w.ensures c.if-w.false c.number-worker.ensures.0 c.if-worker-ne0.false c.times-often.ensures.0 c.if-often-ne0.false,
+      rw (longer l.0 c.times-often.result.value c.number-worker.result.value) tally,
       small,
-      reach_then l.4 (reach_then n.number.ensures.0.reach o.times.ensures.0.reach),
+      reach_then l.4 (reach_then c.number-worker.ensures.0.reach c.times-often.ensures.0.reach),
     )
 
-loop_again : tie.Need-loop-preserved invariant_loop decreases_loop
+loop_again : tie.Need-loop-w-preserved-then-count-le16384 invariant_loop decreases_loop
 loop_again c =
-    let e = c.before.before in
-    let o = e.before.before in
-    let l = o.before.before.before.before.before.before.before.loop.invariant in
-    again e _ (omega (arith, l.2, c.before.if4.true)) (omega (arith, o.times.ensures.1, c.before.if4.true))
+    let l = c.loop-w.invariant in
+    again c.before.before _ (omega (arith, l.2, c.if-count-le16384.true)) (omega (arith, c.times-often.ensures.1, c.if-count-le16384.true))
 
-loop_again_2 : tie.Need-loop-preserved-2 invariant_loop decreases_loop
+loop_again_2 : tie.Need-loop-w-preserved invariant_loop decreases_loop
 loop_again_2 c =
-    let l = c.before.before.before.before.before.before.before.before.before.before.loop.invariant in
-    again c.before _ (omega (arith, l.2, c.if4.false)) l.3
+    let l = c.loop-w.invariant in
+    again c.before _ (omega (arith, l.2, c.if-count-le16384.false)) l.3
 
 pub count_spec : {M : Type 1} → statement M
 count_spec =
@@ -145,7 +124,7 @@ count_spec =
     (λ c κs. search rules)
     (λ c κs. search rules)
     returns_3
-    (λ c. omega (arith, c.before.if4.true, c.before.before.before.before.times.ensures.1))
+    (λ c. omega (arith, c.if-count-le16384.true, c.times-often.ensures.1))
     (λ c. let a = ahead c.before.before in omega (arith, a.0, a.1))
     loop_again
     (λ c. let a = ahead c.before in omega (arith, a.0, a.1))

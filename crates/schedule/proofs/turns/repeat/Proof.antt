@@ -9,25 +9,23 @@ use Rattle.pen.proofs.Putting.{puts_none, puts_then}
 use Rattle.schedule.proofs.turns.repeat.Statement.{statement}
 use Rattle.schedule.proofs.turns.repeat.Tie as tie
 
-abbrev invariant_loop : tie.invariant_loop
+abbrev invariant_loop : tie.invariant-loop-i
 invariant_loop out₀ at byte times next₀ i₀ out next i = Puts out₀ at (replicate i byte) out next × (i ≤ times) × (length out ≡ length out₀)
 
-abbrev decreases_loop : tie.decreases_loop
+abbrev decreases_loop : tie.decreases-loop-i
 decreases_loop out₀ at byte times next₀ i₀ out next i = times - i
 
-loop_again : tie.Need-loop-preserved invariant_loop decreases_loop
-loop_again c =
-    let b = c.before.before in
-    let l = b.before.before.before in (
-      rw (← replicate-append-replicate l.loop.i 1 l.before.before.args.byte) (puts_then l.loop.invariant.0 b.byte.ensures),
-      omega arith,
-      b.byte.auto.0 ∙ l.loop.invariant.2,
-    )
+loop_again : tie.Need-loop-i-preserved invariant_loop decreases_loop
+loop_again c = (
+  rw (← replicate-append-replicate c.loop-i.i 1 c.args.byte) (puts_then c.loop-i.invariant.0 c.byte-next.ensures),
+  omega arith,
+  c.byte-next.auto.out ∙ c.loop-i.invariant.2,
+)
 
 returns : tie.Need-returns invariant_loop decreases_loop
 returns c =
-    let l = c.before.loop in
-    let all : l.i ≡ c.before.before.before.args.times = omega arith in
+    let l = c.loop-i in
+    let all : l.i ≡ c.args.times = omega arith in
     rw (← all) l.invariant.0
 
 pub repeat_spec : {M : Type 1} → statement M

@@ -13,43 +13,37 @@ use borrow.Author.Rules.{rules}
 use Rattle.schedule.proofs.turns.times.Statement.{statement}
 use Rattle.schedule.proofs.turns.times.Tie as tie
 
-returns : tie.Need-returns
+returns : tie.Need-returns-then-start-w
 unfolding times_at
 returns c =
-    let w = c.before.before.before.word.ensures in
+    let w = c.word-w.ensures in
     let e = c.found.ensures in
     let value = ap (λ (g : Got). g.value) e in
-    (found_here (e ∙ (rw (← w.is, eq-eqb _ _ c.before.if1.true))) (ap (λ (g : Got). g.at) e), omega (arith, value))
+    (found_here (e ∙ (rw (← w.is, eq-eqb _ _ c.if-start-w.true))) (ap (λ (g : Got). g.at) e), omega (arith, value))
 
-returns_2 : tie.Need-returns-2
+returns_2 : tie.Need-returns-then-small-ne120
 unfolding times_at
 returns_2 c =
-    let s = c.before.before in
-    let k = s.before.before in
-    let w = k.before.before in
-    let start = w.word.result.start in
-    let text = w.before.before.args.text.now in
-    let e = c.found2.ensures in
+    let start = c.word-w.result.start in
+    let text = c.args.text.now in
+    let e = c.found-then-small-ne120.ensures in
     let value = ap (λ (g : Got). g.value) e in
-    let other = ne_eqb (small (get_or text start 0)) 120 (λ is. c.before.if2.true (s.small.ensures ∙ is)) in
-    (found_here (e ∙ (rw (← w.word.ensures.is, ne_eqb _ _ k.if1.false, other))) (ap (λ (g : Got). g.at) e), omega (arith, value))
+    let other = ne_eqb (small (get_or text start 0)) 120 (λ is. c.if-small-ne120.true (c.small.ensures ∙ is)) in
+    (found_here (e ∙ (rw (← c.word-w.ensures.is, ne_eqb _ _ c.if-start-w.false, other))) (ap (λ (g : Got). g.at) e), omega (arith, value))
 
-returns_3 : tie.Need-returns-3
+returns_3 : tie.Need-returns
 unfolding times_at
 returns_3 c =
-    let s = c.before.before in
-    let k = s.before.before in
-    let w = k.before.before in
-    let start = w.word.result.start in
-    let end = w.word.result.end in
-    let text = w.before.before.args.text.now in
-    let e = c.number_in_lem.ensures in
-    let so = eq-eqb (small (get_or text start 0)) 120 (sym s.small.ensures ∙ c.before.if2.false) in (
+    let start = c.word-w.result.start in
+    let end = c.word-w.result.end in
+    let text = c.args.text.now in
+    let e = c.number_in.ensures in
+    let so = eq-eqb (small (get_or text start 0)) 120 (sym c.small.ensures ∙ c.if-small-ne120.false) in (
       record {
-        is = e.0 ∙ (rw (← w.word.ensures.is, ne_eqb _ _ k.if1.false, so));
+        is = e.0 ∙ (rw (← c.word-w.ensures.is, ne_eqb _ _ c.if-start-w.false, so));
         reach = rw e.0
-            (number_there text start (start + 1) end 1 16384 18 (Reaches text w.before.before.args.at) w.word.ensures.start
-            (reach_then w.word.ensures.start w.word.ensures.end));
+            (number_there text start (start + 1) end 1 16384 18 (Reaches text c.args.at) c.word-w.ensures.start
+            (reach_then c.word-w.ensures.start c.word-w.ensures.end));
       },
       e.1,
     )

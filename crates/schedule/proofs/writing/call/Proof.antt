@@ -9,14 +9,15 @@ use Rattle.schedule.proofs.writing.call.Tie as tie
 returns : tie.Need-returns
 unfolding call_text bytes
 returns c =
-    let end = c.before.before in
-    let does = end.before.before.before.before.before in
-    let who = does.before.before.before.before in
-    puts_then who.told.ensures (puts_then does.verb.ensures end.words.ensures)
+    puts_then c.told-who.ensures (puts_then c.verb-does.ensures c.words.ensures)
 
 pub call_spec : {M : Type 1} → statement M
 call_spec =
     tie.close
     (tie.spec
-    (λ c. search rules) (λ c. search rules) (λ c κs. search rules) (λ c κs. search rules)
-    (λ c. search rules) (λ c κs. search rules) (λ c. search rules) returns)
+    (λ c. search rules)
+    (λ c κs. search rules)
+    (λ c κs. search rules)
+    (λ c κs. search rules)
+    (λ c. search rules)
+    returns)

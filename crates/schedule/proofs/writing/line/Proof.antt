@@ -16,34 +16,32 @@ ends c = let n = whole_next _ _ _ _ c.requires in omega arith
 
 -- turns stand within the sheet
 inside :
-    (c : tie.After-field3)
-    → let s = c.before.before.before.before in
-    let span = c.field3.given.0.0 in
-    (span.start ≤ span.end) × (span.end ≤ length s.args.sheet.now)
+    (c : tie.In-Turning)
+    → let span = c.in-Turning.span in
+    (span.start ≤ span.end) × (span.end ≤ length c.args.sheet.now)
 inside c =
-    let s = c.before.before.before.before in
-    let is = s.requires ∙ ap (λ (f : Field). Whole f s.args.next) c.field3.given.1 in
+    let is = c.requires ∙ ap (λ (f : Field). Whole f c.args.next) c.in-Turning.is in
     let n = whole_next _ _ _ _ is in
     let w = whole_turns _ _ _ _ is in
     (w.2, omega (arith, w.1, n.1))
 
-returns : tie.Need-returns
-returns c = let f = c.before.before in rw f.before.before.before.field.given.1 f.floor.ensures
+returns : tie.Need-returns-in-Opening
+returns c = rw c.in-Opening.is c.floor.ensures
 
-returns_2 : tie.Need-returns-2
-returns_2 c = let f = c.before.before in rw f.before.before.before.field2.given.1 f.call.ensures
+returns_2 : tie.Need-returns-in-Calling
+returns_2 c = rw c.in-Calling.is c.call.ensures
 
-returns_3 : tie.Need-returns-3
-returns_3 c = let f = c.before.before in rw f.before.before.before.before.field3.given.1 f.turns.ensures
+returns_3 : tie.Need-returns-in-Turning
+returns_3 c = rw c.in-Turning.is c.turns.ensures
 
 pub line_spec : {M : Type 1} → statement M
 line_spec =
     tie.close
     (tie.spec
     (λ c. search rules) (λ c κs. search rules)
-    (λ c. search rules) (λ c. ends c.before.before.before.before.before.before) (λ c κs. search rules)
-    (λ c. search rules) (λ c. (inside c.before.before).0)
-    (λ c. (inside c.before.before).0) (λ c. (inside c.before.before).1) (λ c κs. search rules)
+    (λ c. search rules) (λ c. ends c.before.before.before.before) (λ c κs. search rules)
+    (λ c. search rules) (λ c. (inside c.before).0)
+    (λ c. (inside c.before).0) (λ c. (inside c.before).1) (λ c κs. search rules)
     (λ c. search rules) returns
     (λ c. search rules) returns_2
     (λ c. search rules) returns_3)

@@ -11,48 +11,42 @@ use Rattle.schedule.proofs.Recital.{Standing, standing_starts, standing_refused,
 use Rattle.schedule.proofs.writing.lines.Statement.{statement}
 use Rattle.schedule.proofs.writing.lines.Tie as tie
 
-abbrev invariant_loop : tie.invariant_loop
+abbrev invariant_loop : tie.invariant-loop-field
 invariant_loop sheet out₀ written₀ at₀ out written at = Standing sheet out₀ out written at × (length out ≡ length out₀)
 
-abbrev decreases_loop : tie.decreases_loop
+abbrev decreases_loop : tie.decreases-loop-field
 decreases_loop sheet out₀ written₀ at₀ out written at = length sheet - at
 
 -- the field was read here
 read_at :
-    (k : tie.After-read2 invariant_loop decreases_loop)
-    → let l = k.before.before.before in
-    read_field l.before.before.before.args.sheet.now l.loop.at ≡ Whole k.read2.given.0.0 k.read2.given.0.1.0
-read_at k = sym k.before.before.read.ensures ∙ k.read2.given.1
+    (k : tie.In-Whole invariant_loop decreases_loop)
+    → read_field k.args.sheet.now k.loop-field.at ≡ Whole k.in-Whole.field k.in-Whole.next
+read_at k = sym k.read-read.ensures ∙ k.in-Whole.is
 
-returns : tie.Need-returns invariant_loop decreases_loop
+returns : tie.Need-returns-in_default invariant_loop decreases_loop
 returns c =
-    let e = c.before in
-    let r = e.before.before in
-    let told = e.enum_told.given.1 in
-    let is = sym r.read.ensures ∙ told ∙ ap Refused (sym (c.place.ensures ∙ ap place_in told)) in
-    standing_refused _ _ r.before.loop.invariant.0 _ is
+    let told = c.in_default.is in
+    let is = sym c.read-read.ensures ∙ told ∙ ap Refused (sym (c.place.ensures ∙ ap place_in told)) in
+    standing_refused _ _ c.loop-field.invariant.0 _ is
 
 -- a line more
-abbrev before_line : tie.After-line invariant_loop decreases_loop → tie.At-loop invariant_loop decreases_loop
-before_line t = t.before.before.before.before.before.before
+abbrev before_line : tie.After-line-written invariant_loop decreases_loop → tie.At-loop-field invariant_loop decreases_loop
+before_line t = t.before.before.before.before
 
-returns_2 : tie.Need-returns-2 invariant_loop decreases_loop
+returns_2 : tie.Need-returns-then-next-sheet invariant_loop decreases_loop
 returns_2 c =
-    let t = c.before.before.before in
-    standing_over _ _ (before_line t).loop.invariant.0 _ _ (read_at t.before.before.before) t.line.ensures c.if1.true
+    standing_over _ _ (before_line c.before.before.before).loop-field.invariant.0 _ _ (read_at c.before.before.before.before.before) c.line-written.ensures c.if-next-sheet.true
 
-loop_less : tie.Need-loop-smaller invariant_loop decreases_loop
+loop_less : tie.Need-loop-field-smaller invariant_loop decreases_loop
 loop_less c =
-    let t = c.before.before.before in
-    let n = whole_next _ _ _ _ (read_at t.before.before.before) in
+    let n = whole_next _ _ _ _ (read_at c.before.before.before.before.before) in
     omega (arith, n.0, n.1)
 
-loop_again : tie.Need-loop-preserved invariant_loop decreases_loop
+loop_again : tie.Need-loop-field-preserved invariant_loop decreases_loop
 loop_again c =
-    let t = c.before.before.before in
-    let g = (before_line t).loop.invariant in (
-      standing_next _ _ g.0 _ _ (read_at t.before.before.before) t.line.ensures c.if1.false,
-      t.line.auto.1.1.1.1.0 ∙ g.1,
+    let g = (before_line c.before.before.before).loop-field.invariant in (
+      standing_next _ _ g.0 _ _ (read_at c.before.before.before.before.before) c.line-written.ensures c.if-next-sheet.false,
+      c.line-written.auto.out ∙ g.1,
     )
 
 pub lines_spec : {M : Type 1} → statement M
@@ -62,8 +56,8 @@ lines_spec =
     invariant_loop decreases_loop
     (λ c. (standing_starts _ _, refl)) (λ c κs. search rules)
     (λ c. search rules) (λ c. search rules) (λ c κs. search rules)
-    (λ c. c.before.before.before.before.loop.invariant.1)
+    (λ c. c.loop-field.invariant.1)
     returns
-    (λ c κs. read_at c.before.before)
-    (λ c. let t = c.before.before.before in t.line.auto.1.1.1.1.0 ∙ (before_line t).loop.invariant.1)
+    (λ c κs. read_at c.before)
+    (λ c. c.line-written.auto.out ∙ (before_line c.before.before.before).loop-field.invariant.1)
     returns_2 loop_less loop_again)

@@ -7,23 +7,23 @@ use Rattle.schedule.specs.Writing.{run_text}
 use Rattle.schedule.proofs.writing.run.Statement.{statement}
 use Rattle.schedule.proofs.writing.run.Tie as tie
 
-returns : tie.Need-returns
+returns : tie.Need-returns-then-times-eq1
 unfolding run_text bytes
 returns c =
-    let t = c.before.before.before in
-    rw (eq-eqb t.before.before.before.before.args.times 1 c.if1.true) (puts_then t.told.ensures (puts_none _ _))
+    rw (eq-eqb c.args.times 1 c.if-times-eq1.true) (puts_then c.told-next.ensures (puts_none _ _))
 
-returns_2 : tie.Need-returns-2
+returns_2 : tie.Need-returns
 unfolding run_text bytes
 returns_2 c =
-    let x = c.before.before in
-    let e = x.before.before.before in
-    let t = e.before.before.before in
-    rw (ne_eqb t.before.before.before.before.args.times 1 e.if1.false) (puts_then t.told.ensures x.told2.ensures)
+    rw (ne_eqb c.args.times 1 c.if-times-eq1.false) (puts_then c.told-next.ensures c.told.ensures)
 
 pub run_spec : {M : Type 1} → statement M
 run_spec =
     tie.close
     (tie.spec
-    (λ c. search rules) (λ c κs. search rules) (λ c. search rules) returns
-    (λ c. search rules) (λ c κs. search rules) (λ c. search rules) returns_2)
+    (λ c κs. search rules)
+    (λ c. search rules)
+    returns
+    (λ c κs. search rules)
+    (λ c. search rules)
+    returns_2)

@@ -9,35 +9,32 @@ use Rattle.schedule.proofs.Runs.{same_one, same_other, same_over}
 use Rattle.schedule.proofs.writing.same_as.Statement.{statement}
 use Rattle.schedule.proofs.writing.same_as.Tie as tie
 
-abbrev invariant_loop : tie.invariant_loop
+abbrev invariant_loop : tie.invariant-loop-i
 invariant_loop turns at worker i₀ i = (at ≤ i) × (same_as worker (drop at turns) ≡ (i - at) + same_as worker (drop i turns))
 
-abbrev decreases_loop : tie.decreases_loop
+abbrev decreases_loop : tie.decreases-loop-i
 decreases_loop turns at worker i₀ i = length turns - i
 
-loop_holds : tie.Need-loop-init invariant_loop decreases_loop
+loop_holds : tie.Need-loop-i-init invariant_loop decreases_loop
 loop_holds c = (omega arith, omega arith)
 
-returns : tie.Need-returns invariant_loop decreases_loop
+returns : tie.Need-returns-then-turns-i invariant_loop decreases_loop
 returns c =
-    let l = c.before.before.before in
-    let a = l.before.args in
-    let none = same_other a.turns.now l.loop.i a.worker c.before.before.loop-test.true c.if1.true in
-    omega (arith, l.loop.invariant.1, none)
+    let a = c.args in
+    let none = same_other a.turns.now c.loop-i.i a.worker c.loop-i-test.true c.if-turns-i.true in
+    omega (arith, c.loop-i.invariant.1, none)
 
-loop_again : tie.Need-loop-preserved invariant_loop decreases_loop
+loop_again : tie.Need-loop-i-preserved invariant_loop decreases_loop
 loop_again c =
-    let l = c.before.before.before in
-    let a = l.before.args in
-    let one = same_one a.turns.now l.loop.i a.worker c.before.before.loop-test.true c.if1.false in
-    (omega (arith, l.loop.invariant.0), omega (arith, l.loop.invariant.0, l.loop.invariant.1, one))
+    let a = c.args in
+    let one = same_one a.turns.now c.loop-i.i a.worker c.loop-i-test.true c.if-turns-i.false in
+    (omega (arith, c.loop-i.invariant.0), omega (arith, c.loop-i.invariant.0, c.loop-i.invariant.1, one))
 
-returns_2 : tie.Need-returns-2 invariant_loop decreases_loop
+returns_2 : tie.Need-returns invariant_loop decreases_loop
 returns_2 c =
-    let l = c.before in
-    let a = l.before.args in
-    let none = same_over a.turns.now l.loop.i a.worker c.loop-test.false in
-    omega (arith, l.loop.invariant.1, none)
+    let a = c.args in
+    let none = same_over a.turns.now c.loop-i.i a.worker c.loop-i-test.false in
+    omega (arith, c.loop-i.invariant.1, none)
 
 pub same_as_spec : {M : Type 1} → statement M
 same_as_spec =

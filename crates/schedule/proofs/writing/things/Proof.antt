@@ -7,27 +7,26 @@ use Rattle.schedule.specs.Writing.{things}
 use Rattle.schedule.proofs.writing.things.Statement.{statement}
 use Rattle.schedule.proofs.writing.things.Tie as tie
 
-returns : tie.Need-returns
+returns : tie.Need-returns-then-n-eq1
 unfolding things
 returns c =
-    let w = c.before.before.before in
-    let n = w.before.before.before.before in
-    rw (eq-eqb n.before.before.before.before.args.n 1 c.if1.true)
-    (puts_then n.number.ensures (puts_then w.words.ensures (puts_none _ _)))
+    rw (eq-eqb c.args.n 1 c.if-n-eq1.true)
+    (puts_then c.number-number.ensures (puts_then c.words-named.ensures (puts_none _ _)))
 
-returns_2 : tie.Need-returns-2
+returns_2 : tie.Need-returns
 unfolding things bytes
 returns_2 c =
-    let s = c.before.before in
-    let e = s.before.before.before in
-    let w = e.before.before.before in
-    let n = w.before.before.before.before in
-    rw (ne_eqb n.before.before.before.before.args.n 1 e.if1.false)
-    (puts_then n.number.ensures (puts_then w.words.ensures s.words2.ensures))
+    rw (ne_eqb c.args.n 1 c.if-n-eq1.false)
+    (puts_then c.number-number.ensures (puts_then c.words-named.ensures c.words.ensures))
 
 pub things_spec : {M : Type 1} → statement M
 things_spec =
     tie.close
     (tie.spec
-    (λ c κs. search rules) (λ c κs. search rules) (λ c. search rules) returns
-    (λ c. search rules) (λ c κs. search rules) (λ c. search rules) returns_2)
+    (λ c κs. search rules)
+    (λ c κs. search rules)
+    (λ c. search rules)
+    returns
+    (λ c κs. search rules)
+    (λ c. search rules)
+    returns_2)

@@ -11,54 +11,50 @@ use Rattle.schedule.proofs.Runs.{Telling, same_within, telling_starts, telling_n
 use Rattle.schedule.proofs.writing.turns.Statement.{statement}
 use Rattle.schedule.proofs.writing.turns.Tie as tie
 
-abbrev invariant_loop : tie.invariant_loop
-invariant_loop out₀ at turns next₀ i₀ end out next i = Telling turns out₀ next₀ out next i × (length out ≡ length out₀)
+abbrev invariant_loop : tie.invariant-loop-i
+invariant_loop out₀ at turns next₀ i₀ out next i = Telling turns out₀ next₀ out next i × (length out ≡ length out₀)
 
-abbrev decreases_loop : tie.decreases_loop
-decreases_loop out₀ at turns next₀ i₀ end out next i = length turns - i
+abbrev decreases_loop : tie.decreases-loop-i
+decreases_loop out₀ at turns next₀ i₀ out next i = length turns - i
 
-loop_holds : tie.Need-loop-init invariant_loop decreases_loop
+loop_holds : tie.Need-loop-i-init invariant_loop decreases_loop
 loop_holds c = (telling_starts _ _ _, refl)
 
 -- a run ends where the turns do, or before
 ends :
-    (c : tie.After-same-as invariant_loop decreases_loop)
-    → let l = c.before.before.before in
-    l.loop.i + (1 + c.same-as.result) ≤ length l.before.before.before.before.before.before.before.before.args.turns.now
+    (c : tie.After-same_as-times invariant_loop decreases_loop)
+    → c.loop-i.i + (1 + c.same_as-times.result) ≤ length c.args.turns.now
 ends c =
-    let m = c.before.before in
-    let l = m.before in
-    let turns = l.before.before.before.before.before.before.before.before.args.turns.now in
-    let few = same_within (get_or turns l.loop.i 0) (drop (l.loop.i + 1) turns) in
-    let long = length-drop (l.loop.i + 1) turns in
-    omega (arith, c.same-as.ensures, m.loop-test.true)
+    let turns = c.args.turns.now in
+    let few = same_within (get_or turns c.loop-i.i 0) (drop (c.loop-i.i + 1) turns) in
+    let long = length-drop (c.loop-i.i + 1) turns in
+    omega (arith, c.same_as-times.ensures, c.loop-i-test.true)
 
-loop_again : tie.Need-loop-preserved invariant_loop decreases_loop
+loop_again : tie.Need-loop-i-preserved invariant_loop decreases_loop
 loop_again c =
-    let r = c.before.before in
-    let s = r.before.before in
-    let m = s.before.before in
-    let l = m.before in
-    (telling_next l.loop.invariant.0 _ m.loop-test.true s.same-as.ensures r.run.ensures, r.run.auto.0 ∙ l.loop.invariant.1)
+    (telling_next c.loop-i.invariant.0 _ c.loop-i-test.true c.same_as-times.ensures c.run-next.ensures, c.run-next.auto.out ∙ c.loop-i.invariant.1)
 
 returns : tie.Need-returns invariant_loop decreases_loop
 unfolding turns_text bytes
 returns c =
-    let w = c.before.before in
-    let o = w.before.before.before in
-    let l = o.before in
-    puts_then l.before.before.before.words.ensures (puts_then (telling_over l.loop.invariant.0 o.loop-test.false) w.words2.ensures)
+    puts_then c.words-next.ensures (puts_then (telling_over c.loop-i.invariant.0 c.loop-i-test.false) c.words.ensures)
 
 pub turns_spec : {M : Type 1} → statement M
 turns_spec =
     tie.close
     (tie.spec
-    invariant_loop decreases_loop
-    (λ c. search rules) (λ c κs. search rules) loop_holds (λ c. search rules) (λ c. search rules) (λ c κs. search rules)
-    (λ c. omega (arith, ends c)) (λ c κs. search rules)
+    invariant_loop
+    decreases_loop
+    (λ c κs. search rules)
+    loop_holds
+    (λ c. search rules)
+    (λ c. search rules)
+    (λ c κs. search rules)
+    (λ c. omega (arith, ends c))
+    (λ c κs. search rules)
     (λ c. omega (arith, ends c.before.before.before.before))
     (λ c. omega (arith, ends c.before.before.before.before))
     loop_again
-    (λ c. search rules) (λ c κs. search rules)
-    (λ c. let w = c.before.before in w.words2.auto.0 ∙ w.before.before.before.before.loop.invariant.1 ∙ w.before.before.before.before.before.before.before.words.auto.0)
+    (λ c κs. search rules)
+    (λ c. c.words.auto.out ∙ c.loop-i.invariant.1 ∙ c.words-next.auto.out)
     returns)

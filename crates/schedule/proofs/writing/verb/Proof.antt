@@ -7,37 +7,35 @@ use Rattle.schedule.specs.Writing.{verb_text}
 use Rattle.schedule.proofs.writing.verb.Statement.{statement}
 use Rattle.schedule.proofs.writing.verb.Tie as tie
 
-returns : tie.Need-returns
+returns : tie.Need-returns-then-call-eq-LOOK
 unfolding verb_text bytes
 returns c =
-    let t = c.before.before in
-    let h = t.before.before.before in
-    let k = h.before.before.before.args.call.kind in
-    rw (eq-eqb k 1 h.if1.true) t.told.ensures
+    let k = c.args.call.kind in
+    rw (eq-eqb k 1 c.if-call-eq-LOOK.true) c.told.ensures
 
-returns_2 : tie.Need-returns-2
+returns_2 : tie.Need-returns-then-call-eq-INSERT
 unfolding verb_text bytes
 returns_2 c =
-    let t = c.before.before in
-    let l = t.before.before.before.before in
-    let h = l.before.before.before in
-    let e = h.before.before in
-    let k = e.before.before.before.args.call.kind in
-    rw (ne_eqb k 1 e.if1.false, eq-eqb k 2 h.if2.true) (puts_then l.told2.ensures t.ticket.ensures)
+    let k = c.args.call.kind in
+    rw (ne_eqb k 1 c.if-call-eq-LOOK.false, eq-eqb k 2 c.if-call-eq-INSERT.true) (puts_then c.told-next.ensures c.ticket.ensures)
 
-returns_3 : tie.Need-returns-3
+returns_3 : tie.Need-returns
 unfolding verb_text bytes
 returns_3 c =
-    let t = c.before.before in
-    let h = t.before.before.before in
-    let e = h.before.before in
-    let k = e.before.before.before.args.call.kind in
-    rw (ne_eqb k 1 e.if1.false, ne_eqb k 2 h.if2.false) t.told3.ensures
+    let k = c.args.call.kind in
+    rw (ne_eqb k 1 c.if-call-eq-LOOK.false, ne_eqb k 2 c.if-call-eq-INSERT.false) c.told-2.ensures
 
 pub verb_spec : {M : Type 1} → statement M
 verb_spec =
     tie.close
     (tie.spec
-    (λ c. search rules) (λ c κs. search rules) (λ c. search rules) returns
-    (λ c. search rules) (λ c κs. search rules) (λ c κs. search rules) (λ c. search rules) returns_2
-    (λ c. search rules) (λ c κs. search rules) (λ c. search rules) returns_3)
+    (λ c κs. search rules)
+    (λ c. search rules)
+    returns
+    (λ c κs. search rules)
+    (λ c κs. search rules)
+    (λ c. search rules)
+    returns_2
+    (λ c κs. search rules)
+    (λ c. search rules)
+    returns_3)
