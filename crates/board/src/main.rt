@@ -1,41 +1,41 @@
 // The program that shows the board, turn by turn.
+#![tactic(auto)]
+
 use sheet::LIMIT;
+use std::io;
+use std::io::Write;
 use view::{ROOM, SAID};
 
 // More pages than any sheet has.
 const PAGES: usize = 64;
 
-// §23.1: page after page goes out; whether all of them could be written.
-fn shown(sheet: &[u8]) -> bool {
+// §23.1: page after page goes out.
+fn shown<W: Write>(sheet: &[u8], to: &mut W) -> io::Result<()> {
     let mut out = [0u8; ROOM];
     let mut n = 0;
     while n < PAGES {
         let page = view::page_of(sheet, n, &mut out);
         let written = page.written;
-        if !io::write_all(libc::STDOUT_FILENO, &out[..written]) {
-            return false;
-        }
+        to.write_all(&out[..written])?;
         if page.last {
-            return true;
+            return Ok(());
         }
         n += 1;
     }
-    true
+    Ok(())
 }
 
 // §23.7: what a refusal means goes to standard error, too.
-fn explain(sheet: &[u8]) {
+fn explain<W: Write>(sheet: &[u8], to: &mut W) -> io::Result<()> {
     let mut said = [0u8; SAID];
     let long = view::refusal(sheet, &mut said);
-    io::write_all(libc::STDERR_FILENO, &said[..long]);
+    to.write_all(&said[..long])
 }
 
 // A sheet comes in, and its board goes out.
-fn main() {
+fn main(rt: HostRuntime) -> io::Result<()> {
     let mut sheet = [0u8; LIMIT + 1];
-    let read = io::read_full(libc::STDIN_FILENO, &mut sheet);
-    if !shown(&sheet[..read]) {
-        io::write_all(libc::STDERR_FILENO, b"not written: the board\n");
-    }
-    explain(&sheet[..read]);
+    let read = intake::fill(&mut rt.stdin(), &mut sheet)?;
+    shown(&sheet[..read], &mut rt.stdout())?;
+    explain(&sheet[..read], &mut rt.stderr())
 }
