@@ -1,8 +1,12 @@
 // The program that turns a text into its sheet, and a sheet into its text.
+#![tactic(auto)]
+
 ghost use Rattle.scribe.specs.Answers.{text_answer, sheet_answer, answer, Answers};
 
 use schedule::TEXT;
 use sheet::LIMIT;
+use std::io;
+use std::io::Write;
 
 // The most bytes that a text may have.
 const MOST: usize = 262144;
@@ -69,16 +73,14 @@ fn answer_of(input: &[u8], out: &mut [u8; TEXT], said: &mut [u8; SAID]) -> Answe
 }
 
 // An input comes in, and its answer goes out.
-fn main() {
+fn main(rt: HostRuntime) -> io::Result<()> {
     let mut input = [0u8; MOST + 1];
     let mut out = [0u8; TEXT];
     let mut said = [0u8; SAID];
-    let read = io::read_full(libc::STDIN_FILENO, &mut input);
+    let read = intake::fill(&mut rt.stdin(), &mut input)?;
     let answer = answer_of(&input[..read], &mut out, &mut said);
     let written = answer.written;
     let told = answer.said;
-    if !io::write_all(libc::STDOUT_FILENO, &out[..written]) {
-        io::write_all(libc::STDERR_FILENO, b"not written: the output\n");
-    }
-    io::write_all(libc::STDERR_FILENO, &said[..told]);
+    rt.stdout().write_all(&out[..written])?;
+    rt.stderr().write_all(&said[..told])
 }

@@ -5,13 +5,13 @@ use Rattle.scribe.specs.Answers.{answer}
 use Rattle.scribe.proofs.answer_of.Statement.{statement}
 use Rattle.scribe.proofs.answer_of.Tie as tie
 
-returns : tie.Need-returns
+returns : tie.Need-returns-then-is_text
 unfolding answer
-returns c = let t = c.before.before.before in rw (sym t.before.is_text_lem.ensures ∙ t.if1.true) c.of-text.ensures
+returns c = rw (sym c.is_text.ensures ∙ c.if-is_text.true) c.of_text.ensures
 
-returns_2 : tie.Need-returns-2
+returns_2 : tie.Need-returns
 unfolding answer
-returns_2 c = let t = c.before.before.before in rw (sym t.before.is_text_lem.ensures ∙ t.if1.false) c.of-sheet.ensures
+returns_2 c = rw (sym c.is_text.ensures ∙ c.if-is_text.false) c.of_sheet.ensures
 
 pub answer_of_spec : {M : Type 1} → statement M
 answer_of_spec =
