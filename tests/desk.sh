@@ -97,7 +97,7 @@ refused)
   ;;
 wrong) echo 'line 3, column 14: wrong' >&2 ;;
 long) echo 'too long' >&2 ;;
-unwritten) echo "${0##*/}: the output was not written" >&2 ;;
+unwritten) echo 'Error: Os { code: 28, kind: StorageFull, message: "No space left on device" }' >&2 && exit 1 ;;
 unknown) echo 'no words for it' >&2 ;;
 signal) echo 'half of it' && kill -SEGV $$ ;;
 failure) echo 'half of it' && exit 3 ;;

@@ -32,7 +32,7 @@ find_kit_folder() {
   fi
   need_rt "$1"
   # its first page lies in it
-  guide=$(rt doc) || missing "$1" "'rt doc' does not tell where the kit is"
+  guide=$(rt doc </dev/null) || missing "$1" "'rt doc' does not tell where the kit is"
   kit=$(cd "$(dirname "$guide")" && pwd)
   [ "$kit" = "$known" ] || [ ! -d "$here/target" ] || { printf '%s\n' "$kit" >"$record"; } 2>/dev/null || true
 }

@@ -116,6 +116,11 @@ play() {
 tell_end() {
   local status=$2 said=${3#"$1: "}
   [ "$status" -ne 141 ] || exit 141
+  # a write that fails ends a program by the system's word for it, also where the reader has gone away
+  if [ "$status" -eq 1 ] && [[ $said =~ ^'Error: Os { code: '[0-9]+', kind: '([A-Za-z]+)', message: "'(.*)'" }'$ ]]; then
+    [ "${BASH_REMATCH[1]}" != BrokenPipe ] || exit 141
+    fail 1 "not written: ${BASH_REMATCH[2]}"
+  fi
   if [ "$status" -ne 0 ]; then
     [ -z "$said" ] || printf '%s\n' "$said" >&2
     if [ "$status" -gt 128 ]; then
@@ -129,7 +134,6 @@ tell_end() {
     echo "$tool: $called: $said" >&2
     tell_line "$said"
     ;;
-  *'not written'*) fail 1 "$said" ;;
   *) fail 1 "$called: $said" ;;
   esac
 }
