@@ -1,8 +1,10 @@
 pub mod Beside
 pub mod Determined
+pub mod Lend
 pub mod Numbers
 pub mod Opening
 pub mod Plain
 pub mod Refused
 pub mod Runs
 pub mod Underway
+pub mod Walk
