@@ -1,9 +1,11 @@
 pub mod Beside
 pub mod Determined
+pub mod ForWorker
 pub mod Lend
 pub mod Numbers
 pub mod Opening
 pub mod Plain
+pub mod Records
 pub mod Refused
 pub mod Runs
 pub mod Underway
