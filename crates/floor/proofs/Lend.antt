@@ -7,7 +7,7 @@ use seplogic.Ra.Ura.{Ura}
 use base.Fraction.{full_share}
 use mir.Syntax.{Lifetime}
 use mir.Val.{Val}
-use base.Fml.{Lft, GName, Share, Fml, Incl-refl, fsep, flft, flent, fobor, fobs, fauth}
+use base.Fml.{Lft, GName, Share, Fml, Incl-refl, fsep, flft, flent, fbor, fobor, fobs, fauth}
 use types.Logic.{Logic}
 use types.Kit.{Item, ‵, some, later, ◌⊛◌, Goal, Soaks, Seq, Step, step, ◌$◌, move, drop, use1, use2, use3, rewrite, split, pick, fsplit, fjoin, feq_i, await}
 use types.Tokens.{lft_new, lft_end, lent_back}
@@ -55,6 +55,10 @@ module _ {M : Type 1} {𝓤 : Ura M} {𝓛 : Logic 𝓤} {K : Type 0} {Γ : List
       -- [obs; auth; the open borrow; the elements]
       move t (3 ∷ 2 ∷ 0 ∷ 1 ∷ []) $ closes_slice t z R x.now x.now refl x.ref_ptr.0 x.ref_ptr.1 $ fjoin t $
       pure_i t (mut_slice_at R x (mut_slice_vals x)) (tt, (tt, tt)) (refl, room) $ fjoin t $ s)
+
+-- ---- what a `&mut [T]` leaves that was given away for good: its last state is said, and its borrow is there, closed
+abbrev pub Given : (R : RattleType) → Lft → MutBor (List R.Denot) → List R.Denot → Fml
+Given R κ x zs = fsep (finally R x.ghost_name zs) (fbor κ (Held R (length x.now) x.ref_ptr.0 x.ref_ptr.1 x.ghost_name))
 
 -- ---- a `&mut [T]` is lent again, for one call, and comes back at the list that the call left. x is the reference as it was passed, and ys what it holds now
 abbrev Again : (R : RattleType) → Lft → Lft → Share → MutBor (List R.Denot) → List R.Denot → GName → Fml

@@ -1,6 +1,7 @@
 pub mod Beside
 pub mod Determined
 pub mod ForWorker
+pub mod Leaves
 pub mod Lend
 pub mod Numbers
 pub mod Opening

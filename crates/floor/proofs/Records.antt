@@ -7,11 +7,13 @@ use mathlib.Core.List.{List, [], ◌∷◌}
 use seplogic.Ra.Ura.{Ura}
 use lib.Dec.{T}
 use mir.Val.{Val, WT, has_ty}
-use base.Fml.{Share, Fml, fsep, fat}
+use base.Fml.{Lft, Share, Fml, fsep, fat}
 use base.Fraction.{full_share}
 use types.Logic.{Logic}
 use types.Kit.{Item, ‵, Goal, Seq, Step, step, ◌$◌, move, drop, use1}
-use denote.RattleType.{RattleType}
+use borrow.Table.Copies.{parts_laws}
+use denote.RattleType.{RattleType, RowLaws}
+use denote.Shares.{Shares}
 use denote.Index.{row as row_of, place, others, elem_out, elem_back, elem_put}
 use denote.Memory.{cell_at, shares}
 use denote.Laws.{Is, shows}
@@ -42,6 +44,13 @@ val = LL.val T.the_type T'.the_laws
 
 abbrev pub size : ℕ
 size = 40
+
+-- it can be had behind a `&`, as often as one likes, and it is shared as a `&` shares it
+pub row_laws : RowLaws row
+row_laws = parts_laws T.the_type (LL.copy_row_laws (T.the_type).parts T'.the_copy)
+
+pub row_shares : {M : Type 1} {𝓤 : Ura M} (𝓛 : Logic 𝓤) (l : Lft) → Shares 𝓛 row l
+row_shares 𝓛 l = (LL.copied T.the_type T'.the_copy 𝓛).shares full_share l
 
 -- where element i lies does not wrap
 pub scaled : (i n : ℕ) → Room row n → i < n → i * size < 2 ^ 64
