@@ -1,5 +1,6 @@
 pub mod Beside
 pub mod Determined
+pub mod Displayed
 pub mod ForWorker
 pub mod Leaves
 pub mod Lend
@@ -9,5 +10,6 @@ pub mod Plain
 pub mod Records
 pub mod Refused
 pub mod Runs
+pub mod Turning
 pub mod Underway
 pub mod Walk
