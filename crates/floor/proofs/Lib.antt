@@ -1,3 +1,4 @@
+pub mod Acts
 pub mod Beside
 pub mod Determined
 pub mod Displayed
