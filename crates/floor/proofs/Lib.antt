@@ -12,6 +12,7 @@ pub mod Plain
 pub mod Records
 pub mod Refused
 pub mod Runs
+pub mod Starts
 pub mod Turning
 pub mod Underway
 pub mod Walk
