@@ -22,7 +22,7 @@ use denote.Shares.{Shares}
 use denote.Lend.{Held, lends_shr_slice, lends_slice, slice_back}
 use denote.Index.{row as row_of, whole_in, whole_out, opens_slice, closes_slice}
 
--- ---- a `&mut [T]` is lent as a `&[T]` for one call
+-- ---- a `&mut [T]` is lent as a `&[T]` for one call, where T has the law by which a `&` to it is made
 abbrev pub Shared : (R : RattleType) → Lft → Lft → Share → MutBor (List R.Denot) → Fml
 Shared R κ κ' q x = fsep (flent κ' ((arr_parts (shares R) (length x.now)).part full_share x.now x.ref_ptr.0 x.ref_ptr.1))
     (fsep (fobor κ q (Held R (length x.now) x.ref_ptr.0 x.ref_ptr.1 x.ghost_name))

@@ -45,7 +45,7 @@ val = LL.val T.the_type T'.the_laws
 abbrev pub size : ℕ
 size = 40
 
--- it can be had behind a `&`, as often as one likes, and it is shared as a `&` shares it
+-- the laws of what a `&` to a record holds, and the law by which such a `&` is made
 pub row_laws : RowLaws row
 row_laws = parts_laws T.the_type (LL.copy_row_laws (T.the_type).parts T'.the_copy)
 
