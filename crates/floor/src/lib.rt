@@ -1,6 +1,6 @@
 // The desk's library: every call over a lent board, one lent list of worker records and, where it keeps or reads one, a lent index. What holds
 // the list is thin: it takes out the record that the call concerns, lets the engine or the hall go on with it, and puts it back. C calls
-// them under these names: include/desk.h.
+// them by crate floor_c, under these names: include/desk.h.
 #![tactic(auto)]
 
 ghost use Rattle.engine.specs.Calls.{look_call, insert_call, remove_call};
