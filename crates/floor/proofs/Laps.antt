@@ -4,13 +4,12 @@
 --         while k < end { LEAF(records, k, x); k += 1; } }
 -- The list is lent again for each record. The invariant at k and zs: the first k records are what the leaf makes of them. Assumes `Logic`, and
 -- that the leaf and `least` meet their contracts.
-use mathlib.Core.Path.{◌≡◌, refl, sym, ap, ◌∙◌}
+use mathlib.Core.Path.{◌≡◌, refl, sym, ◌∙◌}
 use Prim.Native.Nat.{ℕ, ◌≤◌, ◌+◌, ◌-◌}
 use mathlib.Core.List.{[], ◌∷◌, List}
 use lib.ListN.{length, get_or, set}
 use mathlib.Core.Bool.{cond}
 use lib.Dec.{ltb, ltb→lt, nltb→le, lit<}
-use native.Mathlib.Omega.{arith}
 use seplogic.Ra.Ura.{Ura}
 use mir.Syntax.{Callee, Fn, Body, named, erased, mut, w64, ty_int, ty_unit, ty_bool, local, value_local, place, field, deref, copy, int, skip, seq, assign, call, block, loop, exit, rv_opd, addr_of, aggregate, op2, lt, add, unsigned, opd_unit, return}
 use mir.Syntax as mir_of
@@ -45,9 +44,10 @@ use Rattle.turn.specs.declared.Worker.{Worker}
 use Rattle.engine.specs.Calls.{blank}
 use Rattle.engine.specs.Firsts.{firsts}
 use Rattle.turn.proofs.Worker.TheLaws as T'
-use Rattle.engine.proofs.Firsts.{firsts_none, firsts_next, firsts_least}
+use Rattle.engine.proofs.Firsts.{firsts_none}
 use Rattle.floor.proofs.Plain.{Plain, still_last, still_silent}
 use Rattle.floor.proofs.Walk.{walk_closes, pointer, loc, span, full, bare, stack, gone, var, sets, gets, part, arg, arg_num, cited_call, env_of, tests, relends, Nearer, nearer_wf, nearer, below, next, zero_le}
+use Rattle.floor.proofs.Lapping.{lap, all_asked}
 use Rattle.floor.proofs.Lend.{lends_again, back_again}
 use Rattle.floor.proofs.Records.{row}
 use Rattle.floor.proofs.Leaves.{given_call}
@@ -65,13 +65,6 @@ module _ (g : ℕ → Worker → Worker) where
   -- what is left to do
   abbrev left_of : (n : ℕ) (ys : List Worker) → Lap n ys → ℕ
   left_of n ys t = n - t.0
-
-  -- past the last lap all of them are done
-  all_of : (n k : ℕ) (ys zs : List Worker) → k ≤ n → n ≤ k → zs ≡ firsts g k ys → zs ≡ firsts g n ys
-  all_of n k ys zs le ge e = e ∙ ap (λ (m : ℕ). firsts g m ys) (omega arith)
-
-  lap : (k : ℕ) (ys zs zs' : List Worker) → zs ≡ firsts g k ys → zs' ≡ set zs k (g k (get_or zs k blank)) → zs' ≡ firsts g (k + 1) ys
-  lap k ys zs zs' e₁ e₂ = e₂ ∙ rw e₁ (firsts_next g k ys)
 
 module _ (X : Plain) (g : X.row.Denot → ℕ → Worker → Worker) where
   abbrev pub leaf_ended : Ended
@@ -211,7 +204,7 @@ module _ (X : Plain) (g : X.row.Denot → ℕ → Worker → Worker) where
       returns ! (look ! (v 0 0) refl) $
       gone ! (full _, (full _, (full _, (full _, (full _, (full _, (full _, (full _, (bare, (bare, (bare, tt))))))))))) $
       suffices ! _ (ends vunit tt (zs, (still_last X.row X.still x, (tt, tt))) (long, (tt, (tt, tt)))) $
-      says ! (all_of (g x) m k ys zs t.1 (nltb→le k m left) t.2.2 ∙ rw least-is (firsts_least (g x) n ys)) $
+      says ! (all_asked (g x) n m k ys zs least-is t.1 (nltb→le k m left) t.2.2) $
       nothing ! $ move ! (1 ∷ 0 ∷ []) $ join ! $ frame ! $
       nothing ! $ owned ! usize (Is usize) (uint_Makes 𝓛 w64) n _ (refl, n-fits) $ fjoin ! $
       owned ! X.row (Is X.row) (X.makes 𝓛) x _ x-is $ fjoin ! $

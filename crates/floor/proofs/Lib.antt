@@ -3,6 +3,7 @@ pub mod Beside
 pub mod Determined
 pub mod Displayed
 pub mod ForWorker
+pub mod Lapping
 pub mod Laps
 pub mod Leaves
 pub mod Lend

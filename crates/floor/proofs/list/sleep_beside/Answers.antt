@@ -1,20 +1,14 @@
-use Rattle.std.proofs.Common.{◌≡◌, ℕ, sym, ap, ◌∙◌, arith}
-use Rattle.engine.specs.Firsts.{firsts}
-use Rattle.engine.proofs.Firsts.{firsts_none, firsts_next, firsts_least}
+use Rattle.std.proofs.Common.{sym, arith}
+use Rattle.engine.proofs.Firsts.{firsts_none}
 use Rattle.floor.specs.Lent.{beside}
+use Rattle.floor.proofs.Lapping.{lap, all_asked}
 use Rattle.floor.proofs.list.sleep_beside.Goals as goal
 
 pub loop-k-init : goal.loop-k-init
 loop-k-init c = record { within = omega arith; slept = sym (firsts_none _ _) }
 
 pub loop-k-preserved : goal.loop-k-preserved
-loop-k-preserved c =
-    let slept = c.loop-k.invariant.slept in
-    record { within = omega arith; slept = c.sleep_at.ensures ∙ rw slept (firsts_next (beside c.args.worker) c.loop-k.k c.args.records.now) }
+loop-k-preserved c = record { within = omega arith; slept = lap (beside c.args.worker) _ _ _ _ c.loop-k.invariant.slept c.sleep_at.ensures }
 
 pub returns : goal.returns
-returns c =
-    let all : c.loop-k.k ≡ c.least-end.result = omega arith in
-    c.loop-k.invariant.slept
-    ∙ ap (λ (m : ℕ). firsts (beside c.args.worker) m c.args.records.now) (all ∙ c.least-end.ensures)
-    ∙ firsts_least (beside c.args.worker) c.args.count c.args.records.now
+returns c = all_asked (beside c.args.worker) _ _ _ _ _ c.least-end.ensures c.loop-k.invariant.within c.loop-k-test.false c.loop-k.invariant.slept
