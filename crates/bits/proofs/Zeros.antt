@@ -42,6 +42,20 @@ zeros_enough (suc some) more n fits other =
     rest zero even further = ap suc (further (λ none. other (omega (arith, even, none))))
     rest (suc d) odd further = refl
 
+-- a number that is not 0 has a digit that is set among its own
+pub zeros_under : (k n : ℕ) → n < 2 ^ k → (n ≡ 0 → ⊥) → count_trailing_zeros k n < k
+unfolding count_trailing_zeros
+zeros_under zero n fits other = absurd (other (omega arith))
+zeros_under (suc k) n fits other = rest (n % 2) refl (zeros_under k (n / 2) (shr_lt k 1 (rw (add-one k) fits)))
+  where
+    rest :
+        (d : ℕ)
+        → n % 2 ≡ d
+        → ((n / 2 ≡ 0 → ⊥) → count_trailing_zeros k (n / 2) < k)
+        → under d (count_trailing_zeros k (n / 2)) < suc k
+    rest zero even further = let less = further (λ none. other (omega (arith, even, none))) in omega (arith, less)
+    rest (suc d) odd further = omega arith
+
 module _ (w i : ℕ) (fits : w < 2 ^ 64) (bit : i < 64) where
   -- so of a word from bit i on: where nothing is left above, no bit is set
   pub first_none : w / 2 ^ i ≡ 0 → 64 ≡ seek (is_set w) i (64 - i)
@@ -54,3 +68,10 @@ module _ (w i : ℕ) (fits : w < 2 ^ 64) (bit : i < 64) where
       let left : w / 2 ^ i < 2 ^ (64 - i) = shr_lt (64 - i) i (subst (λ (n : ℕ). w < 2 ^ n) digits fits) in
       ap (λ (n : ℕ). i + n) (ap (λ (n : ℕ). count_trailing_zeros n (w / 2 ^ i)) digits ∙ zeros_enough (64 - i) i (w / 2 ^ i) left some)
       ∙ sym (seek_zeros w i (64 - i))
+
+  -- which is one of the word's bits
+  pub some_under : (w / 2 ^ i ≡ 0 → ⊥) → seek (is_set w) i (64 - i) < 64
+  some_under some =
+      let digits : 64 ≡ (64 - i) + i = omega arith in
+      let left : w / 2 ^ i < 2 ^ (64 - i) = shr_lt (64 - i) i (subst (λ (n : ℕ). w < 2 ^ n) digits fits) in
+      omega (arith, seek_zeros w i (64 - i), zeros_under (64 - i) (w / 2 ^ i) left some)

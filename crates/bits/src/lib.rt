@@ -1,29 +1,17 @@
 // One bit of a 64-bit word. A number past 63 names no bit: it is never set, and setting it changes nothing.
 #![tactic(auto)]
 
-ghost use Rattle.std.specs.Prelude.{◌≡◌, cond};
-ghost use Rattle.bits.specs.Bits.{is_set, with_bit, first_from};
+ghost use Rattle.std.specs.Prelude.{◌≡◌};
+ghost use Rattle.bits.specs.Bits.{is_set, with_bit, first_from, bit_if_any};
 
-// §21.1: how many bits a word has; also what stands for a bit where there is none.
+// §21.1: how many bits a word has.
 pub const BITS: u32 = 64;
 
 // Whether a bit is set.
 pub fn is_set(word: u64, bit: u32) -> bool
     ensures { result ≡ is_set word bit }
 {
-    if bit >= BITS {
-        return false;
-    }
-    (word >> bit) & 1 == 1
-}
-
-fn one_if(on: bool) -> u64
-    ensures { result ≡ cond on 1 0 }
-{
-    if on {
-        return 1;
-    }
-    0
+    bit < BITS && (word >> bit) & 1 == 1
 }
 
 // The word with a bit set or cleared.
@@ -33,19 +21,19 @@ pub fn with_bit(word: u64, bit: u32, on: bool) -> u64
     if bit >= BITS {
         return word;
     }
-    (word & !(1u64 << bit)) | (one_if(on) << bit)
+    (word & !(1u64 << bit)) | ((on as u64) << bit)
 }
 
-// §21.4: the first bit that is set at or after one, or no bit.
-pub fn first_from(word: u64, bit: u32) -> u32
-    ensures { result ≡ first_from word bit }
+// §21.4: the first bit that is set at or after one, if there is one.
+pub fn first_from(word: u64, bit: u32) -> Option<u32>
+    ensures { result ≡ bit_if_any (first_from word bit) }
 {
     if bit >= BITS {
-        return BITS;
+        return None;
     }
     let above = word >> bit;
     if above == 0 {
-        return BITS;
+        return None;
     }
-    bit + u64::trailing_zeros(above)
+    Some(bit + above.trailing_zeros())
 }

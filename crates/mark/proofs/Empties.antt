@@ -123,7 +123,3 @@ module _ (w : ℕ) where
         first_byte 8 (w / 2 ^ 48) 0 0 0x80,
         and_zero_r (bit_or _ _),
       ) (counted (empty 32) (empty 40) (empty 48))
-
--- an eighth of at most 32 zeros fits into a byte
-pub first_lt : (n : ℕ) → count_trailing_zeros 32 n / 8 < 256
-first_lt n = omega (arith, trailing_le 32 n)

@@ -1,5 +1,5 @@
 -- The mark word of a bucket, in plain arithmetic. Figure 5 is the report's.
-use Rattle.std.specs.Prelude.{ℕ, ◌+◌, ◌-◌, ◌*◌, ◌/◌, ◌%◌, ◌^◌, Bool, cond, ◌&&◌, ◌==◌, nat_le, nat_lt}
+use Rattle.std.specs.Prelude.{ℕ, ◌+◌, ◌-◌, ◌*◌, ◌/◌, ◌%◌, ◌^◌, Bool, cond, ◌&&◌, ◌==◌, nat_le, nat_lt, Option, Some, None}
 
 -- §2.5: the version, the low half of the word
 unfoldable pub version : ℕ → ℕ
@@ -39,6 +39,10 @@ first_empty word =
     cond (mark_of word 0 == 0) 0
     (cond (mark_of word 1 == 0) 1
     (cond (mark_of word 2 == 0) 2 3))
+
+-- §4.7: a slot, and none for a number past the three
+abbrev pub slot_if_any : ℕ → Option ℕ
+slot_if_any slot = cond (nat_lt slot 3) (Some slot) None
 
 -- §3.7: a word is well formed if no mark is over 2 and byte 7 is 0
 unfoldable pub well_formed : ℕ → Bool

@@ -3,7 +3,7 @@
 #![tactic(auto)]
 
 ghost use Rattle.std.specs.Prelude.{◌≡◌, ◌+◌, ◌*◌, ◌≤◌};
-ghost use Rattle.mark.specs.Word.{version, mark_of, set_mark, next_version, bump, first_empty, well_formed, is_mark, count_marks};
+ghost use Rattle.mark.specs.Word.{version, mark_of, set_mark, next_version, bump, first_empty, slot_if_any, well_formed, is_mark, count_marks};
 
 // §2.6: the mark of a slot that may be claimed.
 pub const EMPTY: u8 = 0;
@@ -56,7 +56,7 @@ pub fn version_of(word: u64) -> u32
 fn next_version(version: u32) -> u32
     ensures { result ≡ next_version version }
 {
-    std::num::wrapping_add_u32(version, 1)
+    version.wrapping_add(1)
 }
 
 // The word that a commit leaves, but for the mark: the next version, and all else as it was.
@@ -66,15 +66,16 @@ pub fn with_next_version(word: u64) -> u64
     ((word >> 32) << 32) | (next_version(version_of(word)) as u64)
 }
 
-// §4.7, §14.11: the lowest slot that is empty, or no slot.
-pub fn first_empty(word: u64) -> u8
-    ensures { result ≡ first_empty word }
+// §4.7, §14.11: the lowest slot that is empty, if there is one.
+pub fn first_empty(word: u64) -> Option<u8>
+    ensures { result ≡ slot_if_any (first_empty word) }
 {
     let above = (word >> 32) as u32;
     // A mark other than 0 has its highest bit, or gets it when 127 is added to its other bits.
     let taken = (above | ((above & 0x007F_7F7F) + 0x007F_7F7F)) & 0x0080_8080;
     // The highest bits of the empty marks are left, and that of byte 7, which stands for no slot.
-    (u32::trailing_zeros(taken ^ 0x8080_8080) / 8) as u8
+    let slot = ((taken ^ 0x8080_8080).trailing_zeros() / 8) as u8;
+    (slot < NO_SLOT).then_some(slot)
 }
 
 // §3.7, §14.11: no mark is over 2, and byte 7 is zero.
@@ -86,22 +87,16 @@ pub fn is_well_formed(word: u64) -> bool
     ((above | (above + 0x0001_0101)) & 0xFFFC_FCFC) == 0
 }
 
-// §2.9: what a slot with this mark counts for.
-fn one_if_valid(mark: u8) -> usize
-    ensures { (result ≡ is_mark 1 mark) × (result ≤ 1) }
+// §2.9: what a slot counts for.
+fn one_if_valid(word: u64, slot: u8) -> usize
+    ensures { (result ≡ is_mark 1 (mark_of word slot)) × (result ≤ 1) }
 {
-    if mark == VALID {
-        return 1;
-    }
-    0
+    usize::from(mark_of(word, slot) == VALID)
 }
 
 // §2.9: how many slots of a mark word are valid.
 pub fn valid_slots(word: u64) -> usize
     ensures { (result ≡ count_marks 1 word) × (result ≤ 3) }
 {
-    let first = one_if_valid(mark_of(word, 0));
-    let second = one_if_valid(mark_of(word, 1));
-    let third = one_if_valid(mark_of(word, 2));
-    first + second + third
+    one_if_valid(word, 0) + one_if_valid(word, 1) + one_if_valid(word, 2)
 }

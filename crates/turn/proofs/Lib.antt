@@ -9,6 +9,7 @@ pub mod OneOutcome
 pub mod Outcome
 pub mod Outcomes
 pub mod Ranges
+pub mod Refusing
 pub mod Retiring
 pub mod Rows
 pub mod Sound

@@ -3,6 +3,7 @@ pub mod Asleep
 pub mod Bucket
 pub mod Places
 pub mod Ready
+pub mod Number
 pub mod Turn
 pub mod Effects
 pub mod Retire

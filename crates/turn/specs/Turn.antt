@@ -1,12 +1,13 @@
 -- One turn of one worker on the bucket of its lot, refused or done.
-use Rattle.std.specs.Prelude.{ℕ, cond, false, List, eqb}
+use Rattle.std.specs.Prelude.{ℕ, cond, false, List, eqb, Result, Ok, Err}
 use Rattle.turn.specs.declared.Worker.{Worker}
 use Rattle.turn.specs.declared.Action.TheVariants.{Read}
 use Rattle.turn.specs.declared.Progress.TheVariants.{GoesOn}
 use Rattle.turn.specs.declared.Report.{Report}
 use Rattle.turn.specs.declared.Stepped.{Stepped}
-use Rattle.turn.specs.declared.Said.{Said}
-use Rattle.turn.specs.declared.Tried.{Tried}
+use Rattle.turn.specs.declared.TurnDone.{TurnDone}
+use Rattle.turn.specs.declared.refusal.Refusal.{Refusal}
+use Rattle.turn.specs.Number.{number}
 use Rattle.turn.specs.Worker.{is_idle, broken}
 use Rattle.turn.specs.Asleep.{awake}
 use Rattle.turn.specs.Bucket.{mark_cell, cell, broken_bucket}
@@ -65,7 +66,18 @@ report_of bucket words s = reported s.stepped bucket (cell words mark_cell) (cel
 abbrev pub doing : Step → Report → Turned
 doing s report = record { worker = s.stepped.worker; answer = Done report }
 
--- ---- as the code has it: a number beside the report
+-- ---- with a number beside the report
+
+-- what a turn says: its report, the report of none where it was refused; the number of refusal, or 0; and the place that it was tried at
+pub record Said : Type 0 where
+  pub report : Report
+  pub refusal : ℕ
+  pub place : ℕ
+
+-- a turn that was tried: the record that it leaves, which is the one it was given where it was refused
+pub record Tried : Type 0 where
+  pub worker : Worker
+  pub said : Said
 
 -- §4.13: the report of none, where no turn was done
 abbrev pub no_report : Report
@@ -78,6 +90,11 @@ refused number w = record { worker = w; said = record { report = no_report; refu
 -- a turn that is done at a place, with the record that it leaves and its report
 abbrev pub done : Worker → Report → ℕ → Tried
 done w report place = record { worker = w; said = record { report = report; refusal = 0; place = place } }
+
+-- so of the code's answer for a worker with this record
+abbrev pub tried_as : Worker → Result TurnDone Refusal → Tried
+tried_as w (Ok t) = done t.worker t.report w.place
+tried_as w (Err why) = refused (number why) w
 
 -- one turn on the words of the bucket of this number, refused or done
 unfoldable pub try_turn : ℕ → List ℕ → Worker → After Tried

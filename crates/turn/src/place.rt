@@ -30,14 +30,15 @@ fn ends(action: Action, answer: u64) -> Stepped
     }
 }
 
-// After a read: at another place; at another place and slot; at another place, with what was seen.
-
-fn read_to(mut w: Worker, place: u8) -> Stepped
-    ensures { result ≡ goes_on Action.Read false (go_to place w) }
+// At another place.
+fn goes_to(action: Action, mut w: Worker, place: u8) -> Stepped
+    ensures { result ≡ goes_on action false (go_to place w) }
 {
     w.place = place;
-    goes_on(Action::Read, false, w)
+    goes_on(action, false, w)
 }
+
+// After a read: at another place and slot; at another place, with what was seen.
 
 fn read_to_slot(mut w: Worker, place: u8, slot: u8, full: bool) -> Stepped
     ensures { result ≡ goes_on Action.Read full (at_slot place slot w) }
@@ -65,18 +66,17 @@ fn look_found(w: Worker) -> Stepped
     if w.held == mark::NO_SLOT {
         return ends(Action::Read, 0);
     }
-    read_to(w, 10)
+    goes_to(Action::Read, w, 10)
 }
 
 // §4.7: a slot to claim, or a full round.
 fn find_slot(w: Worker) -> Stepped
     ensures { result ≡ find_slot w }
 {
-    let free = mark::first_empty(w.word);
-    if free < mark::NO_SLOT {
-        return read_to_slot(w, 6, free, false);
+    match mark::first_empty(w.word) {
+        Some(free) => read_to_slot(w, 6, free, false),
+        None => read_to_slot(w, 1, 0, true),
     }
-    read_to_slot(w, 1, 0, true)
 }
 
 // §4.7: the search is empty.
@@ -89,7 +89,7 @@ fn look_empty(w: Worker) -> Stepped
     if w.held == mark::NO_SLOT {
         return find_slot(w);
     }
-    read_to(w, 9)
+    goes_to(Action::Read, w, 9)
 }
 
 // §4.5: to the next slot.
@@ -109,9 +109,9 @@ fn after_1(mut w: Worker, read: u64) -> Stepped
     w.word = read;
     w.slot = 0;
     if w.kind == record::REMOVE {
-        return read_to(w, 11);
+        return goes_to(Action::Read, w, 11);
     }
-    read_to(w, 2)
+    goes_to(Action::Read, w, 2)
 }
 
 // §5.3: what follows the reading of a mark.
@@ -119,7 +119,7 @@ fn after_3(w: Worker, read: u64) -> Stepped
     ensures { result ≡ after3 w read }
 {
     if mark::mark_of(read, w.slot) == mark::VALID {
-        return read_to(w, 4);
+        return goes_to(Action::Read, w, 4);
     }
     next_slot(w)
 }
@@ -129,7 +129,7 @@ fn after_4(w: Worker, read: u64) -> Stepped
     ensures { result ≡ after4 w read }
 {
     if read == w.key {
-        return read_to(w, 5);
+        return goes_to(Action::Read, w, 5);
     }
     next_slot(w)
 }
@@ -165,17 +165,9 @@ fn after_11(w: Worker, read: u64) -> Stepped
         return next_key(w);
     }
     if mark::mark_of(w.word, w.slot) == mark::VALID {
-        return read_to(w, 12);
+        return goes_to(Action::Read, w, 12);
     }
     next_key(w)
-}
-
-// §5.7, §5.8: what follows a store of an insert that goes on.
-fn stored(mut w: Worker, place: u8) -> Stepped
-    ensures { result ≡ goes_on Action.Store false (go_to place w) }
-{
-    w.place = place;
-    goes_on(Action::Store, false, w)
 }
 
 // §5.6: what follows a claim.
@@ -189,11 +181,10 @@ fn claimed(mut w: Worker, word: u64) -> Stepped
 }
 
 // §4.4: what follows a lost swap.
-fn lost(mut w: Worker) -> Stepped
+fn lost(w: Worker) -> Stepped
     ensures { result ≡ loses w }
 {
-    w.place = 1;
-    goes_on(Action::Lost, false, w)
+    goes_to(Action::Lost, w, 1)
 }
 
 // §4.4: the mark word `new` for `expected`, and what follows a swap that is won or lost.
@@ -234,11 +225,11 @@ pub fn step(bucket: &mut [u64], w: Worker) -> Stepped
         }
         7 => {
             bucket[held_value] = ticket;
-            stored(w, 8)
+            goes_to(Action::Store, w, 8)
         }
         8 => {
             bucket[held_key] = key;
-            stored(w, 9)
+            goes_to(Action::Store, w, 9)
         }
         9 => {
             let filled = mark::with_mark(w.word, w.held, mark::BEING_INSERTED);

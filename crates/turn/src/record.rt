@@ -65,66 +65,28 @@ fn started(kind: u8, place: u8, lot: u64, ticket: u64) -> Worker
 pub fn is_idle(w: Worker) -> bool
     ensures { result ≡ is_idle w }
 {
-    if w.kind != IDLE {
-        return false;
-    }
-    if w.place != 0 {
-        return false;
-    }
-    if w.key != 0 {
-        return false;
-    }
-    if w.ticket != 0 {
-        return false;
-    }
-    if w.slot != 0 {
-        return false;
-    }
-    if w.word != 0 {
-        return false;
-    }
-    if w.held != mark::NO_SLOT {
-        return false;
-    }
-    if w.seen != 0 {
-        return false;
-    }
-    w.asleep == 0
+    w == idle()
 }
 
 // §3.7, §14.1: where a look may stand.
 fn look_stands(place: u8) -> bool
     ensures { result ≡ within 2 5 place }
 {
-    match place {
-        0..=1 => false,
-        2..=5 => true,
-        6..=255 => false,
-    }
+    matches!(place, 2..=5)
 }
 
 // §3.7, §14.1: where an insert may stand.
 fn insert_stands(place: u8) -> bool
     ensures { result ≡ within 1 10 place }
 {
-    match place {
-        0 => false,
-        1..=10 => true,
-        11..=255 => false,
-    }
+    matches!(place, 1..=10)
 }
 
 // §3.7, §14.1: where a remove may stand.
 fn remove_stands(place: u8) -> bool
     ensures { result ≡ (eqb place 1 || within 11 13 place) }
 {
-    match place {
-        0 => false,
-        1 => true,
-        2..=10 => false,
-        11..=13 => true,
-        14..=255 => false,
-    }
+    matches!(place, 1 | 11..=13)
 }
 
 // §3.7: an insert holds no slot when it is about to claim one, a slot from then on until it is done, and while it looks it may hold one from

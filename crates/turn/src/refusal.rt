@@ -1,40 +1,39 @@
-// The numbers of refusal.
+// Why a call is refused.
+ghost use Rattle.std.specs.Prelude.{◌≡◌};
+ghost use Rattle.turn.specs.Number.{number, result_number};
 
-// §6.1: sizes that do not fit together.
-pub const WRONG_SIZES: u8 = 1;
+// §6: each with its number.
+#[derive(Clone, Copy, Debug, PartialEq, Eq, Hash)]
+pub enum Refusal {
+    WrongSizes = 1, // §6.1: sizes that do not fit together
+    NoWorker = 2, // §6.2: there is no such worker
+    BrokenRecord = 3, // §6.3: the worker's record is broken
+    BusyWorker = 4, // §6.4: a start, and the worker is at a call
+    SpentTicket = 5, // §6.5: a ticket that is not above the last
+    IdleWorker = 6, // §6.6: a turn, and the worker is idle
+    BrokenBucket = 7, // §6.7: a broken bucket
+    Malformed = 8, // §6.8: a sheet that cannot be read
+    TooLong = 9, // §6.9: a run or a sheet that is too long
+    NoSmallClass = 10, // §6.10: all orders of a class that is not a small one
+    UntrueIndex = 11, // §6.11: an index that does not tell what the bucket's marks do
+    NotAtRest = 12, // §6.12: a move, and a worker is at a call
+    CrowdedBucket = 13, // §6.13: a move, and a new bucket would need a fourth slot
+}
 
-// §6.2: there is no such worker.
-pub const NO_WORKER: u8 = 2;
+impl From<Refusal> for u8 {
+    ghost from_gives = { λ why n. n ≡ number why };
 
-// §6.3: the worker's record is broken.
-pub const BROKEN_RECORD: u8 = 3;
+    fn from(why: Refusal) -> u8 {
+        why as u8
+    }
+}
 
-// §6.4: a start, and the worker is at a call.
-pub const BUSY_WORKER: u8 = 4;
-
-// §6.5: a ticket that is not above the last.
-pub const SPENT_TICKET: u8 = 5;
-
-// §6.6: a turn, and the worker is idle.
-pub const IDLE_WORKER: u8 = 6;
-
-// §6.7: a broken bucket.
-pub const BROKEN_BUCKET: u8 = 7;
-
-// §6.8: a sheet that cannot be read.
-pub const MALFORMED: u8 = 8;
-
-// §6.9: a run or a sheet that is too long.
-pub const TOO_LONG: u8 = 9;
-
-// §6.10: all orders of a class that is not a small one.
-pub const NO_SMALL_CLASS: u8 = 10;
-
-// §6.11: an index that does not tell what the bucket's marks do.
-pub const UNTRUE_INDEX: u8 = 11;
-
-// §6.12: a move, and a worker is at a call.
-pub const NOT_AT_REST: u8 = 12;
-
-// §6.13: a move, and a new bucket would need a fourth slot.
-pub const CROWDED_BUCKET: u8 = 13;
+// §7.2: the number of refusal in an answer, or 0.
+pub fn number<T: Drop>(answer: Result<T, Refusal>) -> u8
+    ensures { result ≡ result_number answer }
+{
+    match answer {
+        Ok(_) => 0,
+        Err(why) => why.into(),
+    }
+}

@@ -8,10 +8,7 @@ use crate::{Worker, record};
 pub fn more(count: u32, some: u32) -> u32
     ensures { result ≡ capped (count + some) }
 {
-    if count <= u32::MAX - some {
-        return count + some;
-    }
-    u32::MAX
+    count.saturating_add(some)
 }
 
 // §20.2: the record of whoever has a turn.

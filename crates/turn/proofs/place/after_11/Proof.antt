@@ -25,7 +25,7 @@ after_11_spec =
     chosen _ _ _ _
     (both_hold _ _ (eq-eqb a.read a.w.key e.if-read-w.false)
     (eq_of (mark_of a.w.word a.w.slot) 1 _ m.mark_of.ensures v.if-mark_of-eq-VALID.true))
-    c.read_to.ensures)
+    c.goes_to.ensures)
     (λ c κs. search rules)
     (λ c.
     let v = c.before in

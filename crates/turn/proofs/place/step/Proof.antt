@@ -62,13 +62,13 @@ returns_8 : tie.Need-returns-in-7
 returns_8 c =
     let m = c.before in
     let a = m.before.before.before.before.before.before.args in
-    at_row 7 (ready m.before) m.in-7.is (ap (leaves (set a.bucket.now (held_value a.w) a.w.ticket)) c.stored.ensures)
+    at_row 7 (ready m.before) m.in-7.is (ap (leaves (set a.bucket.now (held_value a.w) a.w.ticket)) c.goes_to.ensures)
 
 returns_9 : tie.Need-returns-in-8
 returns_9 c =
     let m = c.before in
     let a = m.before.before.before.before.before.before.args in
-    at_row 8 (ready m.before) m.in-8.is (ap (leaves (set a.bucket.now (held_key a.w) a.w.key)) c.stored-in-8.ensures)
+    at_row 8 (ready m.before) m.in-8.is (ap (leaves (set a.bucket.now (held_key a.w) a.w.key)) c.goes_to-in-8.ensures)
 
 returns_10 : tie.Need-returns-in-9
 returns_10 c =
