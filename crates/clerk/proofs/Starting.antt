@@ -14,7 +14,7 @@ use Rattle.turn.specs.declared.Worker.{Worker}
 use Rattle.turn.specs.Worker.{idle, look_for, insert_of, remove_of}
 use Rattle.turn.specs.Asleep.{awake}
 use Rattle.engine.specs.declared.Floor.{Floor}
-use Rattle.engine.specs.declared.Started.{Started}
+use Rattle.engine.specs.Calls.{Started}
 use Rattle.engine.specs.Refusals.{spent, start_number}
 use Rattle.engine.specs.Calls.{blank, spending, start_call}
 use Rattle.history.specs.History.{State, Call, look, insert, remove, listed_of, record_of, seat_of, started_as, after, entries, begun, begins}

@@ -11,8 +11,8 @@ use borrow.Author.Tests.{ne_eqb}
 use Rattle.turn.specs.declared.Worker.{Worker}
 use Rattle.turn.specs.Worker.{insert_kind}
 use Rattle.turn.specs.Asleep.{awake}
-use Rattle.engine.specs.declared.Counted.{Counted}
-use Rattle.engine.specs.declared.Counted.TheVariants.{Refusal, Lots}
+use Rattle.engine.specs.Calls.{Counted}
+use Rattle.engine.specs.Calls.{Refusal, Lots}
 use Rattle.engine.specs.Board.{bucket_of, lots_on}
 use Rattle.engine.specs.Calls.{count_call, record_in}
 use Rattle.engine.specs.Move.{Line}

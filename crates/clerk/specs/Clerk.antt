@@ -8,7 +8,7 @@ use Rattle.turn.specs.Worker.{idle}
 use Rattle.turn.specs.Bucket.{cell, mark_cell, key_cell, value_cell}
 use Rattle.engine.specs.Board.{bucket_at}
 use Rattle.engine.specs.Calls.{show_call, count_call}
-use Rattle.engine.specs.declared.Counted.TheVariants.{Lots}
+use Rattle.engine.specs.Calls.{Lots}
 use Rattle.engine.specs.Refusals.{wrong_floor}
 use Rattle.engine.specs.Move.{Line, moved_floor}
 use Rattle.hall.specs.declared.Totalled.TheVariants.{Slots}

@@ -1,5 +1,6 @@
 pub mod Adding
 pub mod Among
+pub mod Answers
 pub mod AnyUnder
 pub mod Buckets
 pub mod Cut
@@ -19,6 +20,7 @@ pub mod Rest
 pub mod Retiring
 pub mod Seating
 pub mod Seats
+pub mod Starting
 pub mod Settling
 pub mod Sizes
 pub mod Sleeping

@@ -3,6 +3,8 @@
 use Prim.Native.Nat.{ℕ}
 use mathlib.Core.Path.{◌≡◌, refl, sym, ap, ◌∙◌}
 use mathlib.Core.List.{List}
+use Rattle.std.proofs.Common.{Result}
+use Rattle.turn.specs.declared.refusal.Refusal.{Refusal}
 use lib.Dec.{eqb}
 use borrow.Author.Tests.{eqb-true}
 use Rattle.mark.proofs.Choices.{by_cases}
@@ -11,9 +13,10 @@ use Rattle.turn.specs.Turn.{Turned, After, after, number_of}
 use Rattle.turn.proofs.Numbers.{number_in, number_told}
 use Rattle.engine.specs.declared.Floor.{Floor}
 use Rattle.engine.specs.declared.Seat.{Seat}
-use Rattle.engine.specs.declared.Counted.{Counted}
+use Rattle.engine.specs.Calls.{Counted}
 use Rattle.engine.specs.Refusals.{turn_number, count_number}
-use Rattle.engine.specs.Calls.{turned, turn_call, count_call, counted_number}
+use Rattle.engine.specs.Calls.{turned, turn_call, count_call, counted_as, counted_number}
+use Rattle.engine.proofs.Answers.{counted_told}
 use Rattle.engine.specs.declared.Moved.{Moved}
 use Rattle.engine.specs.Move.{moved_by, move_call}
 use Rattle.engine.specs.Promises.{CountDone, LotsMoved}
@@ -37,13 +40,13 @@ pub turn_done_lem :
 turn_done_lem board s w later r whole = record { whole = whole; number = ap number_in whole ∙ turn_number_lem board s w }
 
 -- a count
-pub count_done : (board : List ℕ) (f : Floor) (r : Counted) → r ≡ count_call board f → CountDone board f r
+pub count_done : (board : List ℕ) (f : Floor) (r : Result ℕ Refusal) → counted_as r ≡ count_call board f → CountDone board f r
 unfolding count_call
 count_done board f r whole =
     let n = count_number f board in
     let told : counted_number (count_call board f) ≡ n =
     by_cases (λ (x : Counted). counted_number x ≡ n) (eqb n 0) _ _ (λ is. sym (eqb-true n 0 is)) (λ isnot. refl) in
-    record { whole = whole; number = ap counted_number whole ∙ told }
+    record { whole = whole; number = sym (counted_told r) ∙ ap counted_number whole ∙ told }
 
 -- the number that a move hands back is the one that it has
 pub moved_number : (number : ℕ) (old : List ℕ) (f : Floor) (n : ℕ) (board : List ℕ) → (moved_by number old f n board).handed.refusal ≡ number

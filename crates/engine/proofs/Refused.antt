@@ -11,7 +11,7 @@ use Rattle.turn.specs.Retire.{not_retired}
 use Rattle.engine.specs.declared.Floor.{Floor}
 use Rattle.engine.specs.declared.Plan.{Plan}
 use Rattle.engine.specs.declared.Seat.{Seat}
-use Rattle.engine.specs.declared.Counted.TheVariants.{Refusal}
+use Rattle.engine.specs.Calls.{Refusal}
 use Rattle.engine.specs.Refusals.{open_number, start_number, turn_number, retire_number, run_number, show_number, count_number}
 use Rattle.engine.specs.Move.{move_number, move_call}
 use Rattle.engine.specs.Calls.{planned, open_call, start_call, turned, turn_call, retired, retire_call, unbegun, run_call, show_call, count_call}

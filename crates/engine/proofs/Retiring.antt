@@ -12,7 +12,10 @@ use native.Mathlib.Omega.{arith}
 use borrow.Author.Tests.{eqb-true, eq-eqb, leb-false}
 use Rattle.mark.proofs.Choices.{by_cases, passes}
 use Rattle.turn.specs.declared.Worker.{Worker}
-use Rattle.turn.specs.declared.Retired.{Retired}
+use Rattle.std.proofs.Common.{Result}
+use Rattle.turn.specs.declared.refusal.Refusal.{Refusal}
+use Rattle.turn.specs.Retire.{Retired, retired_as}
+use Rattle.turn.proofs.Refusing.{retired_told}
 use Rattle.turn.specs.Worker.{no_slot}
 use Rattle.turn.specs.Bucket.{cell, mark_cell, broken_bucket}
 use Rattle.turn.specs.Effects.{effect_on, effect_of_retiring}
@@ -80,15 +83,16 @@ retired_number number f board w =
 
 -- the promise of a retiring, from its equation
 pub worker_retired :
-    (board : List ℕ) (s : Seat) (w : Worker) (board' : List ℕ) (r : Retired)
-    → after board' r ≡ retire_call board s w
+    (board : List ℕ) (s : Seat) (w : Worker) (board' : List ℕ) (r : Result Worker Refusal)
+    → after board' (retired_as w r) ≡ retire_call board s w
     → WorkerRetired board s w board' r
 unfolding retire_call
 worker_retired board s w board' r whole =
     record {
       whole = whole;
       number =
-          ap (λ (x : After Retired). x.handed.refusal) whole
+          sym (retired_told w r)
+          ∙ ap (λ (x : After Retired). x.handed.refusal) whole
           ∙ retired_number (retire_number s.floor board s.listed s.worker w) s.floor board w;
     }
 

@@ -6,7 +6,7 @@ use mathlib.Core.List.{List, ◌++◌}
 use lib.Dec.{eqb}
 use lib.ListN.{take, drop}
 use Rattle.turn.specs.declared.Worker.{Worker}
-use Rattle.turn.specs.declared.Tried.{Tried}
+use Rattle.turn.specs.Turn.{Tried}
 use Rattle.turn.specs.Turn.{Turned, After, after, refusing, refused, done, try_turn, turn_refusal, answered}
 use Rattle.turn.specs.Asleep.{awake}
 use Rattle.turn.specs.Places.{Step, turn}

@@ -1,6 +1,6 @@
 -- Each call's whole outcome, as a function of what it is given: what it answers, and what it leaves of board, records and floor (§12.1). A
 -- refused call answers its number and leaves everything as it came (§7.1).
-use Rattle.std.specs.Prelude.{ℕ, ◌+◌, ◌*◌, Bool, false, cond, List, [], ◌∷◌, map, length, get_or, set, replicate, eqb}
+use Rattle.std.specs.Prelude.{ℕ, ◌+◌, ◌*◌, Bool, false, cond, List, [], ◌∷◌, map, length, get_or, set, replicate, eqb, Result, Ok, Err}
 use Rattle.turn.specs.declared.Worker.{Worker}
 use Rattle.turn.specs.declared.Action.{Action}
 use Rattle.turn.specs.declared.Action.TheVariants.{Read, Store, Won, Lost}
@@ -9,20 +9,19 @@ use Rattle.turn.specs.Worker.{free_place, idle, look_for, insert_of, remove_of}
 use Rattle.turn.specs.Bucket.{cell, mark_cell}
 use Rattle.turn.specs.Asleep.{capped, awake, slept}
 use Rattle.turn.specs.Places.{Step, turn}
-use Rattle.turn.specs.declared.Tried.{Tried}
-use Rattle.turn.specs.declared.Retired.{Retired}
-use Rattle.turn.specs.Turn.{Answer, Refused, Done, Turned, After, after, report_of, refusing, doing, no_report, refused, done}
-use Rattle.turn.specs.Retire.{vacated, not_retired, is_retired}
+use Rattle.turn.specs.declared.refusal.Refusal.{Refusal as Why}
+use Rattle.turn.specs.Number.{number}
+use Rattle.turn.specs.Turn.{Answer, Refused, Done, Turned, Tried, After, after, report_of, refusing, doing, no_report, refused, done}
+use Rattle.turn.specs.Retire.{Retired, vacated, not_retired, is_retired}
 use Rattle.engine.specs.declared.Floor.{Floor}
 use Rattle.engine.specs.declared.Plan.{Plan}
 use Rattle.engine.specs.declared.Bid.{Bid}
 use Rattle.engine.specs.declared.Seat.{Seat}
-use Rattle.engine.specs.declared.Laid.{Laid}
-use Rattle.engine.specs.declared.Started.{Started}
+use Rattle.engine.specs.declared.Begun.{Begun}
+use Rattle.engine.specs.declared.Asked.{Asked}
+use Rattle.engine.specs.declared.Asked.TheVariants.{Look, Insert, Remove}
 use Rattle.engine.specs.declared.Totals.{Totals}
 use Rattle.engine.specs.declared.Touched.{Touched}
-use Rattle.engine.specs.declared.Counted.{Counted}
-use Rattle.engine.specs.declared.Counted.TheVariants.{Refusal, Lots}
 use Rattle.engine.specs.Board.{bucket_of, with_bucket, opened_board, lots_on}
 use Rattle.engine.specs.Refusals.{wrong_floor, spent, bucket_for, open_number, start_number, each_number, turn_number, retire_number, run_number, show_number, count_number}
 
@@ -49,6 +48,17 @@ opened_by number board f records p =
 unfoldable pub open_call : List ℕ → Floor → List Worker → ℕ → Plan → After Opened
 open_call board f records listed p = opened_by (open_number (planned p) board listed) board f records p
 
+-- what an opening hands back beside the board: the floor as it now stands, how many records become idle, and the number of refusal, or 0
+pub record Laid : Type 0 where
+  pub floor : Floor
+  pub idle : ℕ
+  pub refusal : ℕ
+
+-- so of an answer, on this floor with a list of so many records
+abbrev pub laid_as : Floor → ℕ → Result Floor Why → Laid
+laid_as f listed (Ok g) = record { floor = g; idle = listed; refusal = 0 }
+laid_as f listed (Err why) = record { floor = f; idle = 0; refusal = number why }
+
 -- an opening as far as it concerns no record: of the list it says how many become idle
 abbrev pub laid_by : ℕ → After Opened → After Laid
 laid_by listed x =
@@ -59,6 +69,17 @@ abbrev pub lay_call : List ℕ → Floor → ℕ → Plan → After Laid
 lay_call board f listed p = laid_by listed (open_call board f [] listed p)
 
 -- ---- start
+
+-- what a start hands back: the record and the floor as they now stand, and the number of refusal, or 0
+pub record Started : Type 0 where
+  pub worker : Worker
+  pub floor : Floor
+  pub refusal : ℕ
+
+-- so of an answer, on this floor for a worker with this record
+abbrev pub started_as : Floor → Worker → Result Begun Why → Started
+started_as f w (Ok b) = record { worker = b.worker; floor = b.floor; refusal = 0 }
+started_as f w (Err why) = record { worker = w; floor = f; refusal = number why }
 
 -- §7.1: a start with this number of refusal, or 0: where it is accepted the record becomes `new` and the floor `g`
 abbrev pub start_made : ℕ → Floor → Worker → Worker → Floor → Started
@@ -85,6 +106,30 @@ insert_call board s w bid =
 -- §3.4: the start of a remove
 abbrev pub remove_call : List ℕ → Seat → Worker → ℕ → Started
 remove_call board s w lot = start_call board s w false (remove_of lot) s.floor
+
+-- §3.4: the start of whatever is asked for
+abbrev pub asked_call : List ℕ → Seat → Worker → Asked → Started
+asked_call board s w (Look lot) = look_call board s w lot
+asked_call board s w (Insert bid) = insert_call board s w bid
+asked_call board s w (Remove lot) = remove_call board s w lot
+
+-- §3.4: the record that it begins with
+abbrev pub record_for : Asked → Worker
+record_for (Look lot) = look_for lot
+record_for (Insert bid) = insert_of bid.lot bid.ticket
+record_for (Remove lot) = remove_of lot
+
+-- §6.5: whether it has a ticket that is spent
+abbrev pub asked_late : Floor → Asked → Bool
+asked_late f (Look lot) = false
+asked_late f (Insert bid) = spent f bid.ticket
+asked_late f (Remove lot) = false
+
+-- §3.5: the floor after it
+abbrev pub floor_after : Floor → Asked → Floor
+floor_after f (Look lot) = f
+floor_after f (Insert bid) = spending f bid.ticket
+floor_after f (Remove lot) = f
 
 -- ---- turn
 
@@ -245,6 +290,16 @@ show_start board f lot = cond (eqb (show_number f board lot) 0) (8 * bucket_of l
 -- §2.8: so many words of eight bytes on from where a reference points, in the same block of memory: so it is no copy (decision 32)
 abbrev pub words_on : ℕ × ℕ → ℕ → ℕ × ℕ
 words_on p n = (p.0, p.1 + 8 * n)
+
+-- §2.9, §14.9: what a count answers: the number of refusal, or the lots
+pub data Counted : Type 0 where
+  Refusal : ℕ → Counted
+  Lots : ℕ → Counted
+
+-- so of the code's answer
+abbrev pub counted_as : Result ℕ Why → Counted
+counted_as (Ok lots) = Lots lots
+counted_as (Err why) = Refusal (number why)
 
 -- §2.9: the lots on the board, or the number alone
 unfoldable pub count_call : List ℕ → Floor → Counted

@@ -2,11 +2,13 @@
 #![tactic(auto)]
 
 ghost use Rattle.std.specs.Prelude.{◌≡◌, cond};
+ghost use Rattle.turn.specs.Number.{result_number};
 ghost use Rattle.engine.specs.Refusals.{seat_number, record_number, start_refusal};
-ghost use Rattle.engine.specs.Calls.{start_made, look_call, insert_call, remove_call};
+ghost use Rattle.engine.specs.Calls.{asked_call};
 ghost use Rattle.engine.specs.Promises.{LotsMoved, RestTested, BlankMade, FloorLaid, StartDone, TurnTried, TurnTested, WorkerRetired, RetireTested, BucketTouched, RunTested, Shown, ShowPlaced, ShowTested, CountDone};
 
-use turn::{Retired, Tried, Worker, record, refusal, retire};
+use turn::refusal::Refusal;
+use turn::{TurnDone, Worker, record};
 
 pub mod tally; // what turns are counted by
 mod size; // whether floor, board and list fit together
@@ -18,7 +20,7 @@ mod moving; // the lots on a second board
 // §2.1: the number of workers W, the number of buckets N, the last ticket, and the version that the opening gave every bucket. The spare bytes fill
 // it: no byte of it is left to chance.
 #[repr(C)]
-#[derive(Clone, Copy)]
+#[derive(Clone, Copy, Debug, PartialEq, Eq, Hash)]
 pub struct Floor {
     pub workers: usize,
     pub buckets: usize,
@@ -29,7 +31,7 @@ pub struct Floor {
 
 // What an opening asks for.
 #[repr(C)]
-#[derive(Clone, Copy)]
+#[derive(Clone, Copy, Debug, PartialEq, Eq, Hash)]
 pub struct Plan {
     pub workers: usize,
     pub buckets: usize,
@@ -38,38 +40,38 @@ pub struct Plan {
 
 // What an insert brings: a ticket for a lot.
 #[repr(C)]
-#[derive(Clone, Copy)]
+#[derive(Clone, Copy, Debug, PartialEq, Eq, Hash)]
 pub struct Bid {
     pub lot: u64,
     pub ticket: u64,
 }
 
 // A worker's number on a floor, and how many records the list has.
-#[derive(Clone, Copy)]
+#[derive(Clone, Copy, Debug, PartialEq, Eq, Hash)]
 pub struct Seat {
     pub floor: Floor,
     pub listed: usize,
     pub worker: usize,
 }
 
-// What an opening has laid out beside the board: the floor, and how many records become idle.
-#[derive(Clone, Copy)]
-pub struct Laid {
-    pub floor: Floor,
-    pub idle: usize,
-    pub refusal: u8,
+// §3.4: what a start asks for: a look, an insert or a remove, with what it brings.
+#[derive(Clone, Copy, Debug, PartialEq, Eq, Hash)]
+pub enum Asked {
+    Look(u64),
+    Insert(Bid),
+    Remove(u64),
 }
 
-// What a start hands back: the record and the floor as they now stand, and the number of refusal, or 0.
-#[derive(Clone, Copy)]
-pub struct Started {
+// What a start that is done leaves: the worker's record and the floor.
+#[derive(Clone, Copy, Debug, PartialEq, Eq, Hash)]
+pub struct Begun {
     pub worker: Worker,
     pub floor: Floor,
-    pub refusal: u8,
 }
 
-// §22.3: what a move hands back: the floor as it now stands, and the number of refusal, or 0.
-#[derive(Clone, Copy)]
+// §22.3: what a move hands back: the floor as it now stands, and the number of refusal, or 0. A number, since a move hands back whichever it
+// is given (`LotsMoved`).
+#[derive(Clone, Copy, Debug, PartialEq, Eq, Hash)]
 pub struct Moved {
     pub floor: Floor,
     pub refusal: u8,
@@ -77,7 +79,7 @@ pub struct Moved {
 
 // §4.10: what the turns done come to.
 #[repr(C)]
-#[derive(Clone, Copy)]
+#[derive(Clone, Copy, Debug, PartialEq, Eq, Hash)]
 pub struct Totals {
     pub turns: u32,
     pub changes: u32,
@@ -86,17 +88,10 @@ pub struct Totals {
 }
 
 // The bucket of a lot, and the mark word that stands in it.
-#[derive(Clone, Copy)]
+#[derive(Clone, Copy, Debug, PartialEq, Eq, Hash)]
 pub struct Touched {
     pub word: u64,
     pub bucket: usize,
-}
-
-// §2.9, §14.9: what a count answers.
-#[derive(Clone, Copy)]
-pub enum Counted {
-    Refusal(u8),
-    Lots(usize),
 }
 
 // What stands for a record past the end of a list; no call for its worker is accepted.
@@ -118,7 +113,12 @@ pub fn blank() -> Worker
 
 // §2.10: opens a floor on a lent board of eight words a bucket, for a list of as many records as there are workers; whoever has the list
 // makes its records idle.
-pub fn open_floor(board: &mut [u64], floor: Floor, listed: usize, plan: Plan) -> Laid
+pub fn open_floor(
+    board: &mut [u64],
+    floor: Floor,
+    listed: usize,
+    plan: Plan,
+) -> Result<Floor, Refusal>
     ensures { FloorLaid board.old floor listed plan board.new result }
 {
     let opened = Floor {
@@ -129,57 +129,61 @@ pub fn open_floor(board: &mut [u64], floor: Floor, listed: usize, plan: Plan) ->
         spare: 0,
     };
     if size::are_wrong(opened, board.len(), listed) {
-        return Laid {
-            floor,
-            idle: 0,
-            refusal: refusal::WRONG_SIZES,
-        };
+        return Err(Refusal::WrongSizes);
     }
     lay::open(board, plan.buckets, plan.version);
-    Laid {
-        floor: opened,
-        idle: listed,
-        refusal: 0,
+    Ok(opened)
+}
+
+impl Asked {
+    ghost use Rattle.engine.specs.Calls.{record_for, asked_late, floor_after};
+
+    // §3.4: the record that it begins with.
+    fn record(self) -> Worker
+        ensures { result ≡ record_for self }
+    {
+        match self {
+            Asked::Look(lot) => record::look_for(lot),
+            Asked::Insert(bid) => record::insert_of(bid.lot, bid.ticket),
+            Asked::Remove(lot) => record::remove_of(lot),
+        }
+    }
+
+    // §6.5: whether it has a ticket that is spent.
+    fn is_late(self, floor: Floor) -> bool
+        ensures { result ≡ asked_late floor self }
+    {
+        match self {
+            Asked::Insert(bid) => bid.ticket <= floor.last,
+            Asked::Look(_) | Asked::Remove(_) => false,
+        }
+    }
+
+    // §3.5: the floor after it: an insert's ticket is the last from then on.
+    fn leaves(self, mut floor: Floor) -> Floor
+        ensures { result ≡ floor_after floor self }
+    {
+        if let Asked::Insert(bid) = self {
+            floor.last = bid.ticket;
+        }
+        floor
     }
 }
 
-// §3.4: starts a look.
-pub fn start_look(board: &[u64], seat: Seat, w: Worker, lot: u64) -> Started
-    ensures { StartDone look_call board.now seat w lot result }
+// §3.4, §7.1: starts a look, an insert or a remove.
+pub fn start(board: &[u64], seat: Seat, w: Worker, asked: Asked) -> Result<Begun, Refusal>
+    ensures { StartDone asked_call board.now seat w asked result }
 {
     let floor = seat.floor;
-    let refusal = start_refusal(floor, board.len(), seat.listed, seat.worker, w, false);
-    start(refusal, floor, w, record::look_for(lot), floor)
+    let late = asked.is_late(floor);
+    start_refusal(floor, board.len(), seat.listed, seat.worker, w, late)?;
+    Ok(Begun {
+        worker: asked.record(),
+        floor: asked.leaves(floor),
+    })
 }
 
-// §3.4, §3.5: starts an insert, whose ticket is the last from then on.
-pub fn start_insert(board: &[u64], seat: Seat, w: Worker, bid: Bid) -> Started
-    ensures { StartDone insert_call board.now seat w bid result }
-{
-    let floor = seat.floor;
-    let mut after = seat.floor;
-    after.last = bid.ticket;
-    let late = bid.ticket <= floor.last;
-    let refusal = start_refusal(floor, board.len(), seat.listed, seat.worker, w, late);
-    start(
-        refusal,
-        floor,
-        w,
-        record::insert_of(bid.lot, bid.ticket),
-        after,
-    )
-}
-
-// §3.4: starts a remove.
-pub fn start_remove(board: &[u64], seat: Seat, w: Worker, lot: u64) -> Started
-    ensures { StartDone remove_call board.now seat w lot result }
-{
-    let floor = seat.floor;
-    let refusal = start_refusal(floor, board.len(), seat.listed, seat.worker, w, false);
-    start(refusal, floor, w, record::remove_of(lot), floor)
-}
-
-// §7.2: on its own, and of board and list by their lengths: what is left of a start is small enough to be built into its callers.
+// §7.2: of board and list by their lengths.
 fn start_refusal(
     floor: Floor,
     words: usize,
@@ -187,117 +191,75 @@ fn start_refusal(
     worker: usize,
     w: Worker,
     late: bool,
-) -> u8
-    ensures { result ≡ start_refusal floor words listed worker w late }
+) -> Result<(), Refusal>
+    ensures { result_number result ≡ start_refusal floor words listed worker w late }
 {
-    if size::are_wrong(floor, words, listed) {
-        return refusal::WRONG_SIZES;
-    }
-    if floor.workers <= worker {
-        return refusal::NO_WORKER;
-    }
+    seat_refusal(floor, words, listed, worker)?;
     record_refusal(w, late)
 }
 
-// §6.3, §6.4: an idle record is the one that a start is for, so that it is tested first.
-fn record_refusal(w: Worker, late: bool) -> u8
-    ensures { result ≡ record_number w late }
+// §6.3, §6.4, §6.5: an idle record is the one that a start is for, so that it is tested first.
+fn record_refusal(w: Worker, late: bool) -> Result<(), Refusal>
+    ensures { result_number result ≡ record_number w late }
 {
     if record::is_idle(w) {
-        return ticket_refusal(late);
+        if late {
+            return Err(Refusal::SpentTicket);
+        }
+        return Ok(());
     }
     if record::is_sound(w) {
-        return refusal::BUSY_WORKER;
+        return Err(Refusal::BusyWorker);
     }
-    refusal::BROKEN_RECORD
+    Err(Refusal::BrokenRecord)
 }
 
-// §6.5: 5 for a ticket that is spent, or 0.
-fn ticket_refusal(late: bool) -> u8
-    ensures { result ≡ cond late 5 0 }
-{
-    if late {
-        return refusal::SPENT_TICKET;
-    }
-    0
-}
-
-// §7.1: a start with this number of refusal, or 0: the record becomes `new` and the floor `after`, or both stay.
-fn start(refusal: u8, floor: Floor, w: Worker, new: Worker, after: Floor) -> Started
-    ensures { result ≡ start_made refusal floor w new after }
-{
-    if refusal == 0 {
-        return Started {
-            worker: new,
-            floor: after,
-            refusal: 0,
-        };
-    }
-    Started {
-        worker: w,
-        floor,
-        refusal,
-    }
-}
-
-// §6.1, §6.2: the number that the sizes or the worker's own number give, or 0. A start has these tests in its own: each is one jump there.
-fn seat_refusal(floor: Floor, words: usize, listed: usize, worker: usize) -> u8
-    ensures { result ≡ seat_number floor words listed worker }
+// §6.1, §6.2: why the sizes or the worker's own number refuse a call, if they do.
+fn seat_refusal(floor: Floor, words: usize, listed: usize, worker: usize) -> Result<(), Refusal>
+    ensures { result_number result ≡ seat_number floor words listed worker }
 {
     if size::are_wrong(floor, words, listed) {
-        return refusal::WRONG_SIZES;
+        return Err(Refusal::WrongSizes);
     }
     if floor.workers <= worker {
-        return refusal::NO_WORKER;
+        return Err(Refusal::NoWorker);
     }
-    0
+    Ok(())
 }
 
 // §4.1, §7.2: one turn of one worker, given its record.
-pub fn try_turn(board: &mut [u64], seat: Seat, w: Worker) -> Tried
+pub fn try_turn(board: &mut [u64], seat: Seat, w: Worker) -> Result<TurnDone, Refusal>
     ensures { TurnTried board.old seat w board.new result }
 {
     let floor = seat.floor;
-    let refusal = seat_refusal(floor, board.len(), seat.listed, seat.worker);
-    if refusal != 0 {
-        return turn::refused(refusal, w);
-    }
+    seat_refusal(floor, board.len(), seat.listed, seat.worker)?;
     take::turn(board, floor, w)
 }
 
-// §7.2: the number of refusal of a turn on the same arguments, or 0.
-pub fn turn_refusal(board: &[u64], seat: Seat, w: Worker) -> u8
+// §7.2: why a turn on the same arguments is refused, if it is.
+pub fn turn_refusal(board: &[u64], seat: Seat, w: Worker) -> Result<(), Refusal>
     ensures { TurnTested board.now seat w result }
 {
     let floor = seat.floor;
-    let refusal = seat_refusal(floor, board.len(), seat.listed, seat.worker);
-    if refusal != 0 {
-        return refusal;
-    }
+    seat_refusal(floor, board.len(), seat.listed, seat.worker)?;
     take::turn_refusal(board, floor, w)
 }
 
-// §19.1, §7.2: retires one worker, given its record.
-pub fn retire(board: &mut [u64], seat: Seat, w: Worker) -> Retired
+// §19.1, §7.2: retires one worker, given its record, and hands back the record as it then stands.
+pub fn retire(board: &mut [u64], seat: Seat, w: Worker) -> Result<Worker, Refusal>
     ensures { WorkerRetired board.old seat w board.new result }
 {
     let floor = seat.floor;
-    let refusal = seat_refusal(floor, board.len(), seat.listed, seat.worker);
-    if refusal != 0 {
-        return retire::refused(refusal, w);
-    }
+    seat_refusal(floor, board.len(), seat.listed, seat.worker)?;
     take::retired(board, floor, w)
 }
 
-// §7.2: the number of refusal of a retiring on the same arguments, or 0.
-pub fn retire_refusal(board: &[u64], seat: Seat, w: Worker) -> u8
+// §7.2: why a retiring on the same arguments is refused, if it is.
+pub fn retire_refusal(board: &[u64], seat: Seat, w: Worker) -> Result<(), Refusal>
     ensures { RetireTested board.now seat w result }
 {
     let floor = seat.floor;
-    let refusal = seat_refusal(floor, board.len(), seat.listed, seat.worker);
-    if refusal != 0 {
-        return refusal;
-    }
+    seat_refusal(floor, board.len(), seat.listed, seat.worker)?;
     take::retire_refusal(board, floor, w)
 }
 
@@ -315,77 +277,88 @@ pub fn touched_by(board: &[u64], floor: Floor, lot: u64) -> Touched
     }
 }
 
-// §7.2: the number that refuses a run as a whole, or 0: of a board of so many words, a list of so many records, and so many turns.
-pub fn run_refusal(floor: Floor, words: usize, listed: usize, count: usize) -> u8
+// §7.2: why a run is refused as a whole, if it is: on a board of so many words, with a list of so many records, of so many turns.
+pub fn run_refusal(floor: Floor, words: usize, listed: usize, count: usize) -> Result<(), Refusal>
     ensures { RunTested floor words listed count result }
 {
     if size::are_wrong(floor, words, listed) {
-        return refusal::WRONG_SIZES;
+        return Err(Refusal::WrongSizes);
     }
     if 65535 < count {
-        return refusal::TOO_LONG;
+        return Err(Refusal::TooLong);
     }
-    0
+    Ok(())
 }
 
 // §2.8, §14.4: where a lot's bucket stands on the board that was lent; an empty part where the show is refused.
 pub fn show(board: &[u64], floor: Floor, lot: u64) -> &[u64]
     ensures { Shown board.entry floor lot result }
 {
-    if show_refusal(board, floor, lot) == 0 {
-        let at = lots::first_word(lot, floor.buckets);
-        return &board[at..at + 8];
+    match show_refusal(board, floor, lot) {
+        Ok(()) => {
+            let at = lots::first_word(lot, floor.buckets);
+            &board[at..at + 8]
+        }
+        Err(_) => &board[0..0],
     }
-    &board[0..0]
 }
 
 // §2.8: where that part starts on the board, in words; 0 where the show is refused.
 pub fn show_start(board: &[u64], floor: Floor, lot: u64) -> usize
     ensures { ShowPlaced board.now floor lot result }
 {
-    if show_refusal(board, floor, lot) == 0 {
-        return lots::first_word(lot, floor.buckets);
+    match show_refusal(board, floor, lot) {
+        Ok(()) => lots::first_word(lot, floor.buckets),
+        Err(_) => 0,
     }
-    0
 }
 
-// §2.8: the number of refusal of a show on the same arguments, or 0.
-pub fn show_refusal(board: &[u64], floor: Floor, lot: u64) -> u8
+// §2.8: why a show on the same arguments is refused, if it is.
+pub fn show_refusal(board: &[u64], floor: Floor, lot: u64) -> Result<(), Refusal>
     ensures { ShowTested board.now floor lot result }
 {
     if size::is_wrong(board, floor) {
-        return refusal::WRONG_SIZES;
+        return Err(Refusal::WrongSizes);
     }
     if lots::is_broken(board, floor, lot) {
-        return refusal::BROKEN_BUCKET;
+        return Err(Refusal::BrokenBucket);
     }
-    0
+    Ok(())
 }
 
 // §2.9: the lots on the board.
-pub fn count(board: &[u64], floor: Floor) -> Counted
+pub fn count(board: &[u64], floor: Floor) -> Result<usize, Refusal>
     ensures { CountDone board.now floor result }
 {
     if size::is_wrong(board, floor) {
-        return Counted::Refusal(refusal::WRONG_SIZES);
+        return Err(Refusal::WrongSizes);
     }
     lots::count(board, floor.buckets)
 }
 
-// §6.3, §6.12: the number that the records give a move, with one more: the records before it give this one.
+// §6.3, §6.12: the number that the records give a move, with one more: the records before it give this one. It answers for every number
+// (`RestTested`), and so takes no enum.
 pub fn rest_refusal(number: u8, w: Worker) -> u8
     ensures { RestTested number w result }
 {
-    if number == refusal::BROKEN_RECORD {
+    if number == Refusal::BrokenRecord.into() {
         return number;
     }
     if record::is_idle(w) {
         return number;
     }
     if record::is_sound(w) {
-        return refusal::NOT_AT_REST;
+        return Refusal::NotAtRest.into();
     }
-    refusal::BROKEN_RECORD
+    Refusal::BrokenRecord.into()
+}
+
+// §7.1: a move that is refused leaves the floor.
+fn not_moved(floor: Floor, refusal: u8) -> Moved
+    ensures stays { result.floor ≡ floor }
+    ensures number { result.refusal ≡ refusal }
+{
+    Moved { floor, refusal }
 }
 
 // §22.1: moves the lots of one board to another of so many buckets, where the records of the list give this number, or 0.
@@ -402,30 +375,17 @@ pub fn move_lots(
     let mut after = floor;
     after.buckets = buckets;
     if size::are_wrong(floor, old.len(), listed) {
-        return Moved {
-            floor,
-            refusal: refusal::WRONG_SIZES,
-        };
+        return not_moved(floor, Refusal::WrongSizes.into());
     }
     if size::has_wrong_words(after, board.len()) {
-        return Moved {
-            floor,
-            refusal: refusal::WRONG_SIZES,
-        };
+        return not_moved(floor, Refusal::WrongSizes.into());
     }
     if rest != 0 {
-        return Moved {
-            floor,
-            refusal: rest,
-        };
+        return not_moved(floor, rest);
     }
     let mut from = [moving::FREE; moving::SEATS];
-    let number = moving::seat_all(old, &mut from, floor.buckets, buckets);
-    if number != 0 {
-        return Moved {
-            floor,
-            refusal: number,
-        };
+    if let Err(why) = moving::seat_all(old, &mut from, floor.buckets, buckets) {
+        return not_moved(floor, why.into());
     }
     moving::lay_all(old, board, &from, floor.buckets, buckets, floor.version);
     Moved {

@@ -1,5 +1,5 @@
 // What turns are counted by.
-ghost use Rattle.std.specs.Prelude.{◌≡◌, cond};
+ghost use Rattle.std.specs.Prelude.{◌≡◌};
 ghost use Rattle.engine.specs.Calls.{changes, losses};
 ghost use Rattle.engine.specs.Promises.{NoneCounted, TurnCounted};
 
@@ -24,24 +24,15 @@ pub fn changes(place: u8, action: Action) -> u32
 {
     match action {
         Action::Read => 0,
-        Action::Store => freed(place),
+        // one store is a change
+        Action::Store => (place == 10) as u32,
         Action::Won => 1,
         Action::Lost => 0,
     }
 }
 
-// §4.9: one store is a change.
-fn freed(place: u8) -> u32
-    ensures { result ≡ changes place Action.Store }
-{
-    if place == 10 {
-        return 1;
-    }
-    0
-}
-
 // §4.10: 1 for a lost swap, else 0.
-fn losses(action: Action) -> u32
+pub fn losses(action: Action) -> u32
     ensures { result ≡ losses action }
 {
     match action {
@@ -50,16 +41,6 @@ fn losses(action: Action) -> u32
         Action::Won => 0,
         Action::Lost => 1,
     }
-}
-
-// §4.10: 1 for a full round, else 0.
-fn rounds(full: bool) -> u32
-    ensures { result ≡ cond full 1 0 }
-{
-    if full {
-        return 1;
-    }
-    0
 }
 
 // §4.10: the totals with one turn more, done at a place.
@@ -71,6 +52,6 @@ pub fn add(totals: Totals, place: u8, report: Report) -> Totals
         turns: sleep::more(totals.turns, 1),
         changes: sleep::more(totals.changes, changes(place, action)),
         lost: sleep::more(totals.lost, losses(action)),
-        full: sleep::more(totals.full, rounds(report.full)),
+        full: sleep::more(totals.full, report.full as u32),
     }
 }

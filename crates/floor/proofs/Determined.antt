@@ -12,7 +12,7 @@ use Rattle.engine.specs.declared.Floor.{Floor}
 use Rattle.engine.specs.declared.Plan.{Plan}
 use Rattle.engine.specs.declared.Seat.{Seat}
 use Rattle.engine.specs.declared.Moved.{Moved}
-use Rattle.engine.specs.declared.Started.{Started}
+use Rattle.engine.specs.Calls.{Started}
 use Rattle.engine.specs.Calls.{Opened, record_in}
 use Rattle.hall.specs.Calls.{opened_index, retired_index, Indexed, moved_index}
 use Rattle.hall.proofs.Determined.{one_index}

@@ -8,14 +8,14 @@ use lib.ListN.{length, set}
 use lib.Seq.{set-get_or}
 use Rattle.mark.proofs.Choices.{by_cases}
 use Rattle.turn.specs.declared.Worker.{Worker}
-use Rattle.turn.specs.declared.Said.{Said}
-use Rattle.turn.specs.declared.Tried.{Tried}
-use Rattle.turn.specs.declared.Retired.{Retired}
+use Rattle.turn.specs.Turn.{Said}
+use Rattle.turn.specs.Turn.{Tried}
+use Rattle.turn.specs.Retire.{Retired}
 use Rattle.turn.specs.Turn.{Answer, Refused, Done, Turned, After, after, number_of, answer_of}
 use Rattle.engine.specs.declared.Floor.{Floor}
 use Rattle.engine.specs.declared.Seat.{Seat}
-use Rattle.engine.specs.declared.Counted.{Counted}
-use Rattle.engine.specs.declared.Counted.TheVariants.{Refusal, Lots}
+use Rattle.engine.specs.Calls.{Counted}
+use Rattle.engine.specs.Calls.{Refusal, Lots}
 use Rattle.engine.specs.Calls.{blank, record_in, seat_in, tried, records_left, counted_number}
 use Rattle.engine.specs.Promises.{CountDone}
 use Rattle.engine.specs.Firsts.{firsts}

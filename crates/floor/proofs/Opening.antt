@@ -11,7 +11,7 @@ use Rattle.turn.specs.Worker.{idle}
 use Rattle.turn.specs.Turn.{After, after}
 use Rattle.engine.specs.declared.Floor.{Floor}
 use Rattle.engine.specs.declared.Plan.{Plan}
-use Rattle.engine.specs.declared.Laid.{Laid}
+use Rattle.engine.specs.Calls.{Laid}
 use Rattle.engine.specs.Board.{opened_board}
 use Rattle.engine.specs.Calls.{Opened, planned}
 use Rattle.engine.specs.Firsts.{firsts}

@@ -36,7 +36,7 @@ use denote.Exit.{yes}
 use Rattle.turn.specs.declared.Worker.{Worker}
 use Rattle.engine.specs.declared.Floor.{Floor}
 use Rattle.engine.specs.declared.Seat.{Seat}
-use Rattle.engine.specs.declared.Started.{Started}
+use Rattle.engine.specs.Calls.{Started}
 use Rattle.floor.specs.Told.{start_told}
 use Rattle.engine.specs.Calls.{record_in, seat_in}
 use Rattle.engine.specs.Promises.{StartDone}

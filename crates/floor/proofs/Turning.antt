@@ -28,7 +28,7 @@ use denote.Triple.Clauses.{Clauses, Ended, closing}
 use denote.Triple.Spec.{triple_of}
 use denote.Triple.Statement.{Triple}
 use Rattle.turn.specs.declared.Worker.{Worker}
-use Rattle.turn.specs.declared.Said.{Said}
+use Rattle.turn.specs.Turn.{Said}
 use Rattle.turn.specs.Turn.{After, after, answer_of}
 use Rattle.engine.specs.declared.Floor.{Floor}
 use Rattle.hall.specs.Calls.{index_left}

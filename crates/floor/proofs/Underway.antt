@@ -11,9 +11,9 @@ use lib.Seq.{drop-cons}
 use borrow.Author.Tests.{eqb-true, eqb-false, lt-ltb, ltb-false}
 use Rattle.mark.proofs.Choices.{passes, by_cases}
 use Rattle.turn.specs.declared.Worker.{Worker}
-use Rattle.turn.specs.declared.Said.{Said}
+use Rattle.turn.specs.Turn.{Said}
 use Rattle.turn.specs.declared.Report.{Report}
-use Rattle.turn.specs.declared.Tried.{Tried}
+use Rattle.turn.specs.Turn.{Tried}
 use Rattle.turn.specs.Turn.{After, after, no_report, refused, done, answer_of}
 use Rattle.turn.specs.Asleep.{awake}
 use Rattle.turn.specs.Places.{Step, turn}

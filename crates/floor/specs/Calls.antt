@@ -2,11 +2,11 @@
 -- the list; what is left of the index is the hall's too, but for a run.
 use Rattle.std.specs.Prelude.{ℕ, cond, List, eqb, length, set}
 use Rattle.turn.specs.declared.Worker.{Worker}
-use Rattle.turn.specs.declared.Said.{Said}
+use Rattle.turn.specs.Turn.{Said}
 use Rattle.turn.specs.Turn.{After, after, answer_of}
 use Rattle.engine.specs.declared.Floor.{Floor}
 use Rattle.engine.specs.declared.Seat.{Seat}
-use Rattle.engine.specs.declared.Started.{Started}
+use Rattle.engine.specs.Calls.{Started}
 use Rattle.engine.specs.Calls.{Ran, record_in, seat_in, records_left}
 use Rattle.hall.specs.Calls.{hall_try, hall_turn, hall_retire, Indexed, indexed, hall_run}
 use Rattle.floor.specs.declared.Outcome.{Outcome}

@@ -6,7 +6,7 @@ use Rattle.turn.specs.Turn.{after}
 use Rattle.engine.specs.declared.Floor.{Floor}
 use Rattle.engine.specs.declared.Plan.{Plan}
 use Rattle.engine.specs.declared.Seat.{Seat}
-use Rattle.engine.specs.declared.Started.{Started}
+use Rattle.engine.specs.Calls.{Started}
 use Rattle.engine.specs.Refusals.{count_number}
 use Rattle.engine.specs.Calls.{record_in, seat_in, show_call, show_start, count_call}
 use Rattle.engine.specs.Move.{rest_number}

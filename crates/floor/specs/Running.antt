@@ -1,6 +1,6 @@
 -- A run that is under way on the lent list: how far it has come, and where it goes on.
 use Rattle.std.specs.Prelude.{ℕ, ◌+◌, cond, eqb, ltb}
-use Rattle.turn.specs.declared.Said.{Said}
+use Rattle.turn.specs.Turn.{Said}
 use Rattle.turn.specs.Turn.{no_report}
 use Rattle.engine.specs.declared.Floor.{Floor}
 use Rattle.hall.specs.Refusals.{hall_run_refusal}

@@ -6,10 +6,10 @@ use Rattle.turn.specs.declared.Progress.{Progress}
 use Rattle.turn.specs.declared.Progress.TheVariants.{GoesOn, Ended}
 use Rattle.turn.specs.declared.Report.{Report}
 use Rattle.turn.specs.Turn.{Answer, Refused, Done}
-use Rattle.engine.specs.declared.Started.{Started}
+use Rattle.engine.specs.Calls.{Started}
 use Rattle.engine.specs.declared.Totals.{Totals}
-use Rattle.engine.specs.declared.Counted.{Counted}
-use Rattle.engine.specs.declared.Counted.TheVariants.{Refusal, Lots}
+use Rattle.engine.specs.Calls.{Counted}
+use Rattle.engine.specs.Calls.{Refusal, Lots}
 use Rattle.hall.specs.declared.Totalled.{Totalled}
 use Rattle.hall.specs.declared.Next.{Next}
 use Rattle.floor.specs.declared.Outcome.{Outcome}

@@ -5,14 +5,14 @@ use mathlib.Core.Path.{◌≡◌, sym, ap, ap₂, ◌∙◌}
 use mathlib.Core.List.{List}
 use Rattle.mark.proofs.OneAnswer.{one_answer}
 use Rattle.turn.specs.declared.Worker.{Worker}
-use Rattle.turn.specs.declared.Tried.{Tried}
-use Rattle.turn.specs.declared.Retired.{Retired}
+use Rattle.turn.specs.Turn.{Tried}
+use Rattle.turn.specs.Retire.{Retired}
 use Rattle.turn.specs.Turn.{After, after, answer_of}
 use Rattle.turn.proofs.OneOutcome.{one_outcome}
 use Rattle.engine.specs.declared.Floor.{Floor}
 use Rattle.engine.specs.declared.Plan.{Plan}
 use Rattle.engine.specs.declared.Seat.{Seat}
-use Rattle.engine.specs.declared.Laid.{Laid}
+use Rattle.engine.specs.Calls.{Laid}
 use Rattle.engine.specs.declared.Moved.{Moved}
 use Rattle.hall.specs.declared.Totalled.{Totalled}
 use Rattle.hall.specs.declared.Next.{Next}

@@ -7,7 +7,7 @@ use lib.Dec.{eqb}
 use borrow.Author.Tests.{eqb-true}
 use Rattle.mark.proofs.Choices.{by_cases}
 use Rattle.turn.specs.declared.Worker.{Worker}
-use Rattle.turn.specs.declared.Retired.{Retired}
+use Rattle.turn.specs.Retire.{Retired}
 use Rattle.turn.specs.Bucket.{cell, mark_cell}
 use Rattle.turn.specs.Asleep.{awake}
 use Rattle.turn.specs.Places.{turn}

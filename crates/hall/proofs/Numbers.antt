@@ -9,8 +9,8 @@ use lib.ListN.{length}
 use borrow.Author.Tests.{eqb-true, eqb-false, not-false}
 use Rattle.mark.proofs.Choices.{by_cases}
 use Rattle.turn.specs.declared.Worker.{Worker}
-use Rattle.turn.specs.declared.Tried.{Tried}
-use Rattle.turn.specs.declared.Said.{Said}
+use Rattle.turn.specs.Turn.{Tried}
+use Rattle.turn.specs.Turn.{Said}
 use Rattle.turn.specs.Bucket.{cell, mark_cell}
 use Rattle.turn.specs.Retire.{retire_refusal}
 use Rattle.turn.specs.Turn.{After, after, answer_of}

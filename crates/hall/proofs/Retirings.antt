@@ -11,7 +11,7 @@ use lib.ListN.{length}
 use borrow.Author.Tests.{eq-eqb, ne_eqb, eqb-false}
 use Rattle.mark.proofs.Choices.{by_cases}
 use Rattle.turn.specs.declared.Worker.{Worker}
-use Rattle.turn.specs.declared.Retired.{Retired}
+use Rattle.turn.specs.Retire.{Retired}
 use Rattle.turn.specs.Worker.{no_slot}
 use Rattle.turn.specs.Bucket.{cell, mark_cell}
 use Rattle.turn.specs.Turn.{After, after}

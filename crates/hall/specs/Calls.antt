@@ -2,14 +2,14 @@
 use Rattle.std.specs.Prelude.{ℕ, zero, suc, ◌-◌, Bool, cond, List, [], ◌∷◌, eqb, ltb, replicate}
 use Rattle.bits.specs.Seek.{seek}
 use Rattle.turn.specs.declared.Worker.{Worker}
-use Rattle.turn.specs.declared.Tried.{Tried}
-use Rattle.turn.specs.declared.Retired.{Retired}
+use Rattle.turn.specs.Turn.{Tried}
+use Rattle.turn.specs.Retire.{Retired}
 use Rattle.turn.specs.Bucket.{cell, mark_cell}
 use Rattle.turn.specs.Turn.{Answer, Refused, Done, Turned, After}
 use Rattle.engine.specs.declared.Floor.{Floor}
 use Rattle.engine.specs.declared.Plan.{Plan}
 use Rattle.engine.specs.declared.Seat.{Seat}
-use Rattle.engine.specs.declared.Laid.{Laid}
+use Rattle.engine.specs.Calls.{Laid}
 use Rattle.engine.specs.declared.Moved.{Moved}
 use Rattle.engine.specs.Board.{bucket_of, bucket_at}
 use Rattle.engine.specs.Move.{moved_by}

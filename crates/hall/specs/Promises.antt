@@ -2,13 +2,13 @@
 -- back.
 use Rattle.std.specs.Prelude.{ℕ, ◌≡◌, List}
 use Rattle.turn.specs.declared.Worker.{Worker}
-use Rattle.turn.specs.declared.Tried.{Tried}
-use Rattle.turn.specs.declared.Retired.{Retired}
+use Rattle.turn.specs.Turn.{Tried}
+use Rattle.turn.specs.Retire.{Retired}
 use Rattle.turn.specs.Turn.{after, answer_of}
 use Rattle.engine.specs.declared.Floor.{Floor}
 use Rattle.engine.specs.declared.Plan.{Plan}
 use Rattle.engine.specs.declared.Seat.{Seat}
-use Rattle.engine.specs.declared.Laid.{Laid}
+use Rattle.engine.specs.Calls.{Laid}
 use Rattle.engine.specs.declared.Moved.{Moved}
 use Rattle.hall.specs.declared.Totalled.{Totalled}
 use Rattle.hall.specs.declared.Next.{Next}

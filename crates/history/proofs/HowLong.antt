@@ -18,7 +18,7 @@ use Rattle.turn.specs.Turn.{Turned, After}
 use Rattle.turn.specs.Bucket.{cell}
 use Rattle.turn.proofs.Asleep.{is_awake}
 use Rattle.engine.specs.declared.Floor.{Floor}
-use Rattle.engine.specs.declared.Started.{Started}
+use Rattle.engine.specs.Calls.{Started}
 use Rattle.engine.specs.Board.{bucket_of, bucket_at}
 use Rattle.engine.specs.Refusals.{spent}
 use Rattle.engine.specs.Calls.{blank, record_in, spending, start_call}

@@ -10,7 +10,7 @@ use Rattle.turn.specs.declared.Report.{Report}
 use Rattle.turn.specs.Turn.{Answer, Refused, Done}
 use Rattle.turn.specs.Turn as Turn
 use Rattle.engine.specs.declared.Seat.{Seat}
-use Rattle.engine.specs.declared.Started.{Started}
+use Rattle.engine.specs.Calls.{Started}
 use Rattle.hall.specs.Calls.{indexed}
 use Rattle.floor.specs.Told.{report_told, turn_told, run_told}
 use Rattle.floor.specs.Calls.{on_list, start_in, turn_in, retire_in, run_in}

@@ -6,7 +6,7 @@ use mathlib.Core.Path.{◌≡◌, refl, ap, ◌∙◌}
 use native.Mathlib.Decide.{ℕ_discrete}
 use native.Mathlib.Nat.{mod-lt}
 use native.Mathlib.Omega.{arith}
-use Rattle.engine.specs.declared.Counted.TheVariants.{Lots}
+use Rattle.engine.specs.Calls.{Lots}
 use Rattle.engine.specs.Board.{lots_on}
 use Rattle.engine.specs.Calls.{count_call}
 use Rattle.floor.specs.Told.{count_told}

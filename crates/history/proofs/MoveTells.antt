@@ -15,7 +15,7 @@ use Rattle.turn.specs.declared.Worker.{Worker}
 use Rattle.turn.specs.Worker.{idle, is_idle, broken}
 use Rattle.turn.specs.Bucket.{cell, mark_cell}
 use Rattle.turn.proofs.Kept.{is_idle_lem}
-use Rattle.engine.specs.declared.Counted.TheVariants.{Lots}
+use Rattle.engine.specs.Calls.{Lots}
 use Rattle.engine.specs.Board.{bucket_at, lots_on}
 use Rattle.engine.specs.Refusals.{wrong_floor, any_record}
 use Rattle.engine.specs.Calls.{count_call, record_in}

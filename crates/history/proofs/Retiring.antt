@@ -9,7 +9,7 @@ use lib.ListN.{length, length-map}
 use borrow.Author.Tests.{eqb-true}
 use Rattle.mark.proofs.Choices.{by_cases, passes}
 use Rattle.turn.specs.declared.Worker.{Worker}
-use Rattle.turn.specs.declared.Retired.{Retired}
+use Rattle.turn.specs.Retire.{Retired}
 use Rattle.turn.specs.Worker.{idle}
 use Rattle.turn.specs.Asleep.{awake}
 use Rattle.turn.specs.Bucket.{cell, mark_cell}

@@ -16,7 +16,7 @@ use Rattle.turn.specs.Places.{Step, leaves}
 use Rattle.turn.specs.Places as Places
 use Rattle.turn.specs.Turn.{Turned, After, report_of}
 use Rattle.engine.specs.declared.Floor.{Floor}
-use Rattle.engine.specs.declared.Started.{Started}
+use Rattle.engine.specs.Calls.{Started}
 use Rattle.engine.specs.Board.{bucket_of, bucket_at}
 use Rattle.engine.specs.Refusals.{spent, start_number}
 use Rattle.engine.specs.Calls.{spending, start_call}

@@ -9,7 +9,7 @@ use lib.ListN.{length}
 use Rattle.mark.proofs.Choices.{by_cases}
 use Rattle.turn.specs.declared.Worker.{Worker}
 use Rattle.engine.specs.declared.Floor.{Floor}
-use Rattle.engine.specs.declared.Started.{Started}
+use Rattle.engine.specs.Calls.{Started}
 use Rattle.engine.specs.Refusals.{start_number}
 use Rattle.engine.specs.Calls.{spending, start_call}
 use Rattle.history.specs.History.{State, Call, look, insert, remove, turn, retire, run, show, count, orders, ask_total, ask_next, listed_of, seat_of}

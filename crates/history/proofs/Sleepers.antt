@@ -18,7 +18,7 @@ use Rattle.turn.proofs.Sound.{Sound, not_broken}
 use Rattle.turn.proofs.Kept.{not_idle, busy, sound_some, look_kept, insert_kept, remove_kept, turn_kept}
 use Rattle.turn.proofs.Asleep.{slept_busy, by_slept, asleep_sound, capped_more, turn_awake}
 use Rattle.engine.specs.declared.Floor.{Floor}
-use Rattle.engine.specs.declared.Started.{Started}
+use Rattle.engine.specs.Calls.{Started}
 use Rattle.engine.specs.Refusals.{spent, start_number}
 use Rattle.engine.specs.Calls.{blank, record_in, spending, start_call}
 use Rattle.engine.proofs.Sleeping.{own_after, other_after}

@@ -14,7 +14,7 @@ use Rattle.turn.specs.Asleep.{awake}
 use Rattle.turn.proofs.Effects.{Aimed, start_aimed}
 use Rattle.turn.proofs.Kept.{idle_is}
 use Rattle.engine.specs.declared.Floor.{Floor}
-use Rattle.engine.specs.declared.Started.{Started}
+use Rattle.engine.specs.Calls.{Started}
 use Rattle.engine.specs.Refusals.{wrong_sizes, no_worker, start_number}
 use Rattle.engine.specs.Calls.{start_call}
 use Rattle.engine.proofs.Sizes.{right_listed}

@@ -16,13 +16,13 @@ use Rattle.turn.specs.Places.{Step}
 use Rattle.turn.specs.Places as Places
 use Rattle.turn.specs.Turn.{Turned, After, report_of, refusing}
 use Rattle.turn.specs.Turn as Turn
-use Rattle.turn.specs.declared.Retired.{Retired}
+use Rattle.turn.specs.Retire.{Retired}
 use Rattle.turn.specs.Bucket.{cell, mark_cell}
 use Rattle.turn.specs.Retire.{not_retired}
 use Rattle.turn.proofs.Sound.{Accepted}
 use Rattle.turn.proofs.Retiring.{Retirable}
 use Rattle.engine.specs.declared.Floor.{Floor}
-use Rattle.engine.specs.declared.Started.{Started}
+use Rattle.engine.specs.Calls.{Started}
 use Rattle.engine.specs.Board.{bucket_at, with_bucket}
 use Rattle.engine.specs.Refusals.{spent, start_number}
 use Rattle.engine.specs.Calls.{blank, spending, start_call, after_turn}

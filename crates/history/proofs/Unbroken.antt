@@ -14,11 +14,11 @@ use Rattle.mark.proofs.Choices.{by_cases}
 use Rattle.turn.specs.declared.Worker.{Worker}
 use Rattle.turn.specs.Worker.{idle, look_for, remove_of, broken}
 use Rattle.turn.specs.Turn.{Answer, Refused, Done, Turned, After}
-use Rattle.turn.specs.declared.Retired.{Retired}
+use Rattle.turn.specs.Retire.{Retired}
 use Rattle.turn.proofs.Asleep.{slept_broken}
 use Rattle.turn.proofs.Kept.{idle_kept, look_kept, insert_kept, remove_kept}
 use Rattle.engine.specs.declared.Floor.{Floor}
-use Rattle.engine.specs.declared.Started.{Started}
+use Rattle.engine.specs.Calls.{Started}
 use Rattle.engine.specs.Refusals.{wrong_sizes, start_number, turn_number}
 use Rattle.engine.specs.Calls.{Ran, start_call, turned, after_turn, records_left, retired, unbegun, blank, record_in}
 use Rattle.engine.proofs.Sizes.{right_sizes, right_listed}

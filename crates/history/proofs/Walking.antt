@@ -6,7 +6,7 @@ use mathlib.Core.Path.{◌≡◌, refl, sym, subst, ◌∙◌}
 use native.Mathlib.Omega.{arith}
 use lib.Dec.{eqb}
 use lib.ListN.{take}
-use Rattle.engine.specs.declared.Started.{Started}
+use Rattle.engine.specs.Calls.{Started}
 use Rattle.engine.specs.Refusals.{spent}
 use Rattle.engine.specs.Calls.{spending}
 use Rattle.history.specs.Trace.{Entry}

@@ -1,7 +1,7 @@
 -- How long each worker has slept, told from what was called and done. That its record says so is `sleeps`, in proofs/Sleepers.
 use Rattle.std.specs.Prelude.{ℕ, ◌+◌, ◌<◌, Bool, true, false, cond, ◌&&◌, List, [], ◌∷◌, ◌++◌, ◌≡◌, eqb}
 use Rattle.turn.specs.Asleep.{capped}
-use Rattle.engine.specs.declared.Started.{Started}
+use Rattle.engine.specs.Calls.{Started}
 use Rattle.history.specs.Trace.{Turn, Entry, acted, retired, By, None, Continues}
 use Rattle.history.specs.Counts.{turns_in}
 use Rattle.history.specs.History.{State, Call, look, insert, remove, turn, retire, run, show, count, orders, ask_total, ask_next}

@@ -1,7 +1,7 @@
 -- What the hall display is told on an opened board (§21). That it is so wherever a stretch can begin, after every list of calls, is
 -- `displays`, in proofs/Display.
 use Rattle.std.specs.Prelude.{ℕ, true, false, List, ◌≡◌, length}
-use Rattle.engine.specs.declared.Counted.TheVariants.{Lots}
+use Rattle.engine.specs.Calls.{Lots}
 use Rattle.engine.specs.Board.{lots_on}
 use Rattle.engine.specs.Calls.{count_call}
 use Rattle.hall.specs.declared.Totalled.TheVariants.{Slots}

@@ -6,11 +6,11 @@ use Rattle.turn.specs.declared.Worker.{Worker}
 use Rattle.turn.specs.Worker.{look_kind, insert_kind, remove_kind}
 use Rattle.turn.specs.Asleep.{awake}
 use Rattle.turn.specs.Turn.{Answer, Refused, Done, Turned, After}
-use Rattle.turn.specs.declared.Retired.{Retired}
+use Rattle.turn.specs.Retire.{Retired}
 use Rattle.engine.specs.declared.Floor.{Floor}
 use Rattle.engine.specs.declared.Plan.{Plan}
 use Rattle.engine.specs.declared.Seat.{Seat}
-use Rattle.engine.specs.declared.Started.{Started}
+use Rattle.engine.specs.Calls.{Started}
 use Rattle.engine.specs.Board.{bucket_of}
 use Rattle.engine.specs.Calls.{Opened, Ran, planned, look_call, insert_call, remove_call, records_left, record_in, seat_in}
 use Rattle.hall.specs.Refusals.{hall_open_number, hall_run_number}

@@ -8,7 +8,7 @@ use Rattle.turn.specs.declared.Report.{Report}
 use Rattle.turn.specs.Worker.{look_kind, idle, look_for}
 use Rattle.turn.specs.Places as Places
 use Rattle.turn.specs.Turn.{Done, Turned, After}
-use Rattle.engine.specs.declared.Started.{Started}
+use Rattle.engine.specs.Calls.{Started}
 use Rattle.engine.specs.Board.{bucket_of}
 use Rattle.history.specs.Numbers.{OneOf}
 use Rattle.history.specs.Trace.{Entry, acted, retired, Changes, Ends, OwnEnd, None}

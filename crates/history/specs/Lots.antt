@@ -1,7 +1,7 @@
 -- What a count tells on an opened board. That it does so wherever a stretch can begin, after every list of calls, is `count_tells`, in
 -- proofs/Lots.
 use Rattle.std.specs.Prelude.{◌+◌, ◌-◌, ◌≤◌, List, ◌≡◌}
-use Rattle.engine.specs.declared.Counted.TheVariants.{Lots}
+use Rattle.engine.specs.Calls.{Lots}
 use Rattle.engine.specs.Board.{lots_on}
 use Rattle.engine.specs.Calls.{count_call}
 use Rattle.history.specs.Counts.{commits_in, closes_in}

@@ -2,7 +2,7 @@
 use Rattle.std.specs.Prelude.{ℕ, ◌≤◌, ◌<◌, true, false, [], ◌∷◌, ◌↔◌, ◌≡◌, length, replicate}
 use Rattle.mark.specs.Word.{version}
 use Rattle.turn.specs.Worker.{idle}
-use Rattle.engine.specs.declared.Counted.TheVariants.{Lots}
+use Rattle.engine.specs.Calls.{Lots}
 use Rattle.engine.specs.Board.{bucket_of, lots_on}
 use Rattle.engine.specs.Refusals.{wrong_floor}
 use Rattle.engine.specs.Calls.{count_call}

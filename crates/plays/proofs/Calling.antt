@@ -11,7 +11,7 @@ use Rattle.mark.proofs.Choices.{by_cases}
 use Rattle.turn.specs.declared.Worker.{Worker}
 use Rattle.engine.specs.declared.Floor.{Floor}
 use Rattle.engine.specs.declared.Seat.{Seat}
-use Rattle.engine.specs.declared.Started.{Started}
+use Rattle.engine.specs.Calls.{Started}
 use Rattle.engine.specs.Refusals.{start_number}
 use Rattle.engine.specs.Calls.{record_in, start_call}
 use Rattle.sheet.specs.declared.Call as Field

@@ -12,8 +12,8 @@ use borrow.Author.Tests.{eq-eqb, ne_eqb}
 use Rattle.turn.specs.Turn.{After, after}
 use Rattle.engine.specs.declared.Floor.{Floor}
 use Rattle.engine.specs.declared.Plan.{Plan}
-use Rattle.engine.specs.declared.Laid.{Laid}
-use Rattle.engine.specs.declared.Started.{Started}
+use Rattle.engine.specs.Calls.{Laid}
+use Rattle.engine.specs.Calls.{Started}
 use Rattle.engine.specs.Calls.{lay_call}
 use Rattle.engine.specs.Room.{Few}
 use Rattle.engine.proofs.Few.{few_le}

@@ -11,7 +11,7 @@ use Rattle.mark.proofs.Choices.{by_cases}
 use Rattle.turn.specs.Worker.{idle}
 use Rattle.turn.specs.Turn.{After, after}
 use Rattle.engine.specs.declared.Plan.{Plan}
-use Rattle.engine.specs.declared.Laid.{Laid}
+use Rattle.engine.specs.Calls.{Laid}
 use Rattle.engine.specs.Refusals.{open_number}
 use Rattle.engine.specs.Calls.{Opened, planned, open_call, lay_call}
 use Rattle.sheet.specs.Play.{Desk, desk_of, outcome, open_field}

@@ -11,7 +11,7 @@ use Rattle.turn.specs.declared.Worker.{Worker}
 use Rattle.turn.specs.declared.Progress.{Progress}
 use Rattle.turn.specs.declared.Progress.TheVariants.{GoesOn, Ended}
 use Rattle.turn.specs.declared.Report.{Report}
-use Rattle.turn.specs.declared.Tried.{Tried}
+use Rattle.turn.specs.Turn.{Tried}
 use Rattle.turn.specs.Worker.{idle, is_idle}
 use Rattle.turn.specs.Asleep.{awake}
 use Rattle.turn.specs.Places.{turn}

@@ -14,7 +14,7 @@ use Rattle.turn.specs.Turn.{Answer, Refused, Done, After}
 use Rattle.engine.specs.declared.Floor.{Floor}
 use Rattle.engine.specs.declared.Plan.{Plan}
 use Rattle.engine.specs.declared.Seat.{Seat}
-use Rattle.engine.specs.declared.Started.{Started}
+use Rattle.engine.specs.Calls.{Started}
 use Rattle.engine.specs.Board.{opened_board}
 use Rattle.engine.specs.Refusals.{wrong_sizes, open_number, start_number}
 use Rattle.engine.specs.Calls.{Opened, planned, open_call, spending, start_call, turn_call}

@@ -9,7 +9,7 @@ use Rattle.mark.proofs.Choices.{by_cases, passes}
 use Rattle.turn.specs.declared.Worker.{Worker}
 use Rattle.engine.specs.declared.Floor.{Floor}
 use Rattle.engine.specs.declared.Seat.{Seat}
-use Rattle.engine.specs.declared.Started.{Started}
+use Rattle.engine.specs.Calls.{Started}
 use Rattle.engine.specs.Refusals.{start_number, wrong_sizes, no_worker}
 use Rattle.engine.specs.Calls.{spending, start_call}
 use Rattle.engine.proofs.Sizes.{right_sizes}

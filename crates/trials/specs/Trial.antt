@@ -11,7 +11,7 @@ use Rattle.turn.specs.Turn.{Answer, Refused, Done, Turned, After}
 use Rattle.engine.specs.declared.Floor.{Floor}
 use Rattle.engine.specs.declared.Plan.{Plan}
 use Rattle.engine.specs.declared.Seat.{Seat}
-use Rattle.engine.specs.declared.Started.{Started}
+use Rattle.engine.specs.Calls.{Started}
 use Rattle.engine.specs.declared.Totals.{Totals}
 use Rattle.engine.specs.Board.{bucket_at}
 use Rattle.engine.specs.Calls.{Opened, open_call, look_call, insert_call, remove_call, turn_call, tallied, no_turns, blank, record_in, seat_in, after_turn}

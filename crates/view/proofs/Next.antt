@@ -11,14 +11,14 @@ use lib.ListN.{length, get_or, set, replicate, length-set, length-map}
 use borrow.Author.Tests.{eqb-true, eqb-false, ltb-true, ltb-false, ne_eqb, le-ltb}
 use Rattle.mark.proofs.Choices.{by_cases, not_both}
 use Rattle.turn.specs.declared.Worker.{Worker}
-use Rattle.turn.specs.declared.Tried.{Tried}
+use Rattle.turn.specs.Turn.{Tried}
 use Rattle.turn.specs.Worker.{idle}
 use Rattle.turn.specs.Turn.{Turned, After, after, answer_of, answered}
 use Rattle.engine.specs.declared.Floor.{Floor}
 use Rattle.engine.specs.declared.Plan.{Plan}
-use Rattle.engine.specs.declared.Laid.{Laid}
+use Rattle.engine.specs.Calls.{Laid}
 use Rattle.engine.specs.declared.Seat.{Seat}
-use Rattle.engine.specs.declared.Started.{Started}
+use Rattle.engine.specs.Calls.{Started}
 use Rattle.engine.specs.declared.Totals.{Totals}
 use Rattle.engine.specs.Refusals.{turn_number}
 use Rattle.engine.specs.Calls.{lay_call, tried, try_call, turn_call, tallied, capped_totals, record_in, after_turn}

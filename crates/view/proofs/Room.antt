@@ -9,12 +9,12 @@ use lib.ListN.{length, take, drop, get_or, length-append, length-set, length-rep
 use lib.Seq.{take-nil, drop-nil}
 use Rattle.mark.proofs.Choices.{by_cases}
 use Rattle.turn.specs.declared.Worker.{Worker}
-use Rattle.turn.specs.declared.Tried.{Tried}
+use Rattle.turn.specs.Turn.{Tried}
 use Rattle.turn.specs.Worker.{idle}
 use Rattle.turn.specs.Turn.{After, after}
 use Rattle.engine.specs.declared.Plan.{Plan}
-use Rattle.engine.specs.declared.Laid.{Laid}
-use Rattle.engine.specs.declared.Started.{Started}
+use Rattle.engine.specs.Calls.{Laid}
+use Rattle.engine.specs.Calls.{Started}
 use Rattle.engine.specs.Calls.{record_in, lay_call, try_call, count_call}
 use Rattle.engine.proofs.Sleeping.{after_long}
 use Rattle.sheet.specs.declared.Call.{Call}

@@ -2,16 +2,16 @@
 use Rattle.std.specs.Prelude.{ℕ, ◌+◌, Bool, true, false, cond, ◌&&◌, not, List, length, get_or, set, replicate, eqb, ltb}
 use Rattle.turn.specs.declared.Worker.{Worker}
 use Rattle.turn.specs.declared.Report.{Report}
-use Rattle.turn.specs.declared.Tried.{Tried}
+use Rattle.turn.specs.Turn.{Tried}
 use Rattle.turn.specs.Worker.{idle}
 use Rattle.turn.specs.Asleep.{capped}
 use Rattle.turn.specs.Turn.{After, after}
 use Rattle.engine.specs.declared.Plan.{Plan}
-use Rattle.engine.specs.declared.Laid.{Laid}
-use Rattle.engine.specs.declared.Started.{Started}
+use Rattle.engine.specs.Calls.{Laid}
+use Rattle.engine.specs.Calls.{Started}
 use Rattle.engine.specs.declared.Totals.{Totals}
-use Rattle.engine.specs.declared.Counted.{Counted}
-use Rattle.engine.specs.declared.Counted.TheVariants.{Refusal, Lots}
+use Rattle.engine.specs.Calls.{Counted}
+use Rattle.engine.specs.Calls.{Refusal, Lots}
 use Rattle.engine.specs.Calls.{lay_call, try_call, changes, tallied, capped_totals, no_turns, record_in, after_turn, count_call}
 use Rattle.sheet.specs.declared.Call.{Call}
 use Rattle.sheet.specs.declared.Span.{Span}

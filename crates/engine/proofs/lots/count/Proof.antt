@@ -5,7 +5,7 @@ use mathlib.Core.Path.{◌≡◌, refl, sym, ap, ◌∙◌}
 use native.Mathlib.Omega.{arith}
 use borrow.Author.Rules.{rules}
 use Rattle.turn.specs.Bucket.{broken_bucket}
-use Rattle.engine.specs.declared.Counted.TheVariants.{Lots}
+use Rattle.engine.specs.Calls.{Lots}
 use Rattle.engine.specs.Board.{lots_on, any_under, any_broken, bucket_at}
 use Rattle.engine.proofs.Parts.{part_at}
 use Rattle.engine.proofs.Buckets.{lots_next}

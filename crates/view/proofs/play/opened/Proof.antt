@@ -1,6 +1,6 @@
 use mathlib.Core.Path.{ap}
 use Rattle.turn.specs.Turn.{After}
-use Rattle.engine.specs.declared.Laid.{Laid}
+use Rattle.engine.specs.Calls.{Laid}
 use Rattle.view.specs.Stage.{opened_by, open_scene}
 use borrow.Author.Rules.{rules}
 use Rattle.view.proofs.play.opened.Statement.{statement}

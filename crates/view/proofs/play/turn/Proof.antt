@@ -1,5 +1,5 @@
 use mathlib.Core.Path.{ap}
-use Rattle.turn.specs.declared.Tried.{Tried}
+use Rattle.turn.specs.Turn.{Tried}
 use Rattle.turn.specs.Turn.{After}
 use Rattle.view.specs.Stage.{turn_tried, turn_scene}
 use borrow.Author.Rules.{rules}

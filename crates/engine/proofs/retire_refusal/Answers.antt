@@ -1,0 +1,20 @@
+use Rattle.std.proofs.Common.{refl, sym, ap, ◌∙◌}
+use Rattle.std.proofs.lemmas.Result.{err_from_is_err_and}
+use Rattle.turn.proofs.Refusing.{number_some}
+use Rattle.engine.specs.Refusals.{wrong_sizes, retire_number}
+use Rattle.engine.proofs.Seats.{seat_first, seat_after, seat_right}
+use Rattle.engine.proofs.retire_refusal.Goals as goal
+
+pub returns-in_err-seat_refusal : goal.returns-in_err-seat_refusal
+unfolding retire_number wrong_sizes
+returns-in_err-seat_refusal c =
+    let p = err_from_is_err_and c.from_residual.result c.from_residual.ensures.1 in
+    record { whole = rw (p.1, p.2) (seat_first _ _ _ _ _ c.in_err-seat_refusal.ensures _ (number_some _)) }
+
+pub retire_refusal-requires : goal.retire_refusal-requires
+unfolding retire_number wrong_sizes
+retire_refusal-requires c = seat_right _ _ _ _ _ c.in_ok-seat_refusal.ensures refl
+
+pub returns : goal.returns
+unfolding retire_number wrong_sizes
+returns c = record { whole = c.retire_refusal.ensures ∙ seat_after _ _ _ _ _ c.in_ok-seat_refusal.ensures _ refl }
