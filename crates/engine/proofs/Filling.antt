@@ -13,7 +13,7 @@ use Rattle.turn.specs.Bucket.{cell, mark_cell, key_cell}
 use Rattle.engine.specs.Board.{bucket_of, bucket_at, empty_bucket, opened_board}
 use Rattle.engine.specs.Move.{Line, with_line, with_line_at, lines_for, lines_on, placed_all}
 use Rattle.engine.specs.Seating.{no_lot, lot_word, lot_words_in, lot_words_on, lot_words_for, too_many, Seated, line_at_word, filled_from}
-use Rattle.engine.proofs.Placing.{with_lines, word_with, bucket_with, word_none, empty_next, filled_one, filled_two, placed_bucket}
+use Rattle.engine.proofs.Placing.{placed_long, with_lines, word_with, bucket_with, word_none, empty_next, filled_one, filled_two, placed_bucket}
 use Rattle.engine.proofs.Buckets.{length_opened, opened_bucket}
 use Rattle.engine.proofs.Seating.{any_over_none}
 use Rattle.engine.proofs.Settling.{home_lines}
@@ -176,3 +176,12 @@ module _
       ∙ ap (with_lines (empty_bucket v)) (sym (home_lines old n olds b))
       ∙ ap (λ (l : List ℕ). with_lines l (lines_for n b (lines_on old olds))) (sym (opened_bucket v n b under))
       ∙ sym (placed_bucket n some (lines_on old olds) (opened_board n v) (length_opened v n) b))
+
+-- ---- the board that a move leaves
+
+abbrev pub left : List ℕ → ℕ → ℕ → ℕ → List ℕ
+left old olds n v = placed_all n (opened_board n v) (lines_on old olds)
+
+-- eight words a bucket
+pub left_long : (old : List ℕ) (olds n v : ℕ) → 1 ≤ n → length (left old olds n v) ≡ 8 * n
+left_long old olds n v some = placed_long n some (lines_on old olds) (opened_board n v) (length_opened v n) ∙ length_opened v n

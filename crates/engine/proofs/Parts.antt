@@ -1,12 +1,12 @@
 -- A bucket as the part of the board that is lent to a turn, and put back. Assumes nothing.
 use Prim.Native.Nat.{ℕ, ◌+◌, ◌-◌, ◌*◌, ◌≤◌}
 use mathlib.Core.Path.{◌≡◌, refl, ap₂, ◌∙◌}
-use mathlib.Core.List.{List, [], ◌∷◌, ◌++◌}
+use mathlib.Core.List.{List, ◌++◌}
 use native.Mathlib.Omega.{arith}
-use lib.ListN.{length, take, drop, set}
+use lib.ListN.{length, take, drop}
 use borrow.Rule.Slice.PartMut as part
 use borrow.Rule.Slice.PartMut.{mid_len}
-use Rattle.engine.specs.Board.{bucket_at, with_bucket, empty_bucket}
+use Rattle.engine.specs.Board.{bucket_at, with_bucket}
 
 eight : (at : ℕ) → at + 8 - at ≡ 8
 eight at = omega arith
@@ -27,19 +27,3 @@ part_long board at within = mid_len at (at + 8) board within ∙ eight at
 -- a bucket put back as it was
 pub put_same : (board : List ℕ) (b : ℕ) → with_bucket board b (bucket_at board b) ≡ board
 put_same board b = part.put_same (8 * b) 8 board
-
--- eight stores make a list of eight words
-pub eight_stores :
-    (l : List ℕ) (v : ℕ)
-    → length l ≡ 8
-    → set (set (set (set (set (set (set (set l 0 v) 1 0) 2 0) 3 0) 4 0) 5 0) 6 0) 7 0 ≡ empty_bucket v
-eight_stores [] v h = absurd (omega arith)
-eight_stores (a ∷ []) v h = absurd (omega arith)
-eight_stores (a ∷ b ∷ []) v h = absurd (omega arith)
-eight_stores (a ∷ b ∷ c ∷ []) v h = absurd (omega arith)
-eight_stores (a ∷ b ∷ c ∷ d ∷ []) v h = absurd (omega arith)
-eight_stores (a ∷ b ∷ c ∷ d ∷ e ∷ []) v h = absurd (omega arith)
-eight_stores (a ∷ b ∷ c ∷ d ∷ e ∷ f ∷ []) v h = absurd (omega arith)
-eight_stores (a ∷ b ∷ c ∷ d ∷ e ∷ f ∷ g ∷ []) v h = absurd (omega arith)
-eight_stores (a ∷ b ∷ c ∷ d ∷ e ∷ f ∷ g ∷ i ∷ []) v h = refl
-eight_stores (a ∷ b ∷ c ∷ d ∷ e ∷ f ∷ g ∷ i ∷ j ∷ l) v h = absurd (omega arith)

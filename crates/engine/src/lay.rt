@@ -7,14 +7,8 @@ pub fn clear(bucket: &mut [u64], version: u32)
     requires { length bucket.old ≡ 8 }
     ensures { bucket.new ≡ empty_bucket version }
 {
-    bucket[0] = version as u64;
-    bucket[1] = 0;
-    bucket[2] = 0;
-    bucket[3] = 0;
-    bucket[4] = 0;
-    bucket[5] = 0;
-    bucket[6] = 0;
-    bucket[7] = 0;
+    bucket.fill(0);
+    bucket[0] = u64::from(version);
 }
 
 // §2.10: every bucket of the board so.
@@ -22,10 +16,8 @@ pub fn open(board: &mut [u64], buckets: usize, version: u32)
     requires { (buckets ≤ 256) × (length board.old ≡ 8 * buckets) }
     ensures { board.new ≡ opened_board buckets version }
 {
-    let mut b = 0;
-    while b < buckets {
+    for b in 0..buckets {
         let at = 8 * b;
         clear(&mut board[at..at + 8], version);
-        b += 1;
     }
 }
