@@ -17,7 +17,7 @@ use Rattle.engine.specs.declared.Touched.{Touched}
 use Rattle.engine.specs.declared.Moved.{Moved}
 use Rattle.engine.specs.Refusals.{turn_number, retire_number, run_refusal, show_number, count_number}
 use Rattle.engine.specs.Move.{rest_with, move_number, move_call}
-use Rattle.engine.specs.Calls.{Started, blank, laid_as, lay_call, started_as, counted_as, try_call, retire_call, touched_by, no_turns, tallied, capped_totals, show_call, show_start, words_on, count_call, counted_number}
+use Rattle.engine.specs.Calls.{Started, blank, laid_as, lay_call, started_as, counted_as, try_call, retire_call, touched_by, no_turns, tallied, capped_totals, show_call, show_start, words_on, count_call}
 
 -- a move: the old board, the new board before and after, and what is handed back, where the records give this number, or 0
 pub record LotsMoved (old board : List ℕ) (f : Floor) (listed rest n : ℕ) (board' : List ℕ) (r : Moved) : Type 0 where

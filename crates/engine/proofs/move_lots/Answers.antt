@@ -2,11 +2,9 @@ use Rattle.std.proofs.Common.{◌≡◌, false, length, List, ℕ, refl, sym, ap
 use borrow.Author.Tests.{eq-eqb, ne_eqb}
 use Rattle.mark.proofs.Choices.{passes}
 use Rattle.turn.proofs.Refusing.{number_some}
-use Rattle.turn.specs.Turn.{after}
 use Rattle.engine.specs.declared.Floor.{Floor}
 use Rattle.engine.specs.declared.Moved.{Moved}
 use Rattle.engine.specs.Refusals.{wrong_words, wrong_listed, wrong_floor, wrong_sizes}
-use Rattle.engine.specs.Room.{Right}
 use Rattle.engine.specs.Move.{lines_on, any_unsettled, crowded, room_number, moved_floor, move_number, move_call}
 use Rattle.engine.proofs.Sizes.{right, right_sizes}
 use Rattle.engine.proofs.Numbers.{lots_moved}

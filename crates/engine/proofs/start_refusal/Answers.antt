@@ -1,7 +1,6 @@
-use Rattle.std.proofs.Common.{refl, sym, ap, ◌∙◌}
+use Rattle.std.proofs.Common.{refl, ◌∙◌}
 use Rattle.std.proofs.lemmas.Result.{err_from_is_err_and}
 use Rattle.turn.proofs.Refusing.{number_some}
-use Rattle.engine.specs.Refusals.{seat_number}
 use Rattle.engine.proofs.Seats.{seat_first, seat_after}
 use Rattle.engine.proofs.start_refusal.Goals as goal
 
