@@ -5,8 +5,8 @@ use mathlib.Core.List.{List, [], ◌∷◌, ◌++◌}
 use native.Mathlib.Omega.{arith}
 use lib.ListN.{length, take, set, length-append, length-take, length-drop}
 use lib.Seq.{take_all, take-nil}
-use Rattle.sheet.specs.Written.{wrote, Wrote}
-use Rattle.pen.specs.Written.{room_for, Puts}
+use Rattle.pen.specs.Written.{wrote, Wrote, room_for, Puts, Writes, written}
+use Rattle.pen.specs.declared.Pen.{Pen}
 use Rattle.pen.proofs.Writing.{wrote_byte, wrote_none, wrote_then}
 
 -- what is put fits
@@ -84,3 +84,54 @@ pub puts_all :
     → Wrote out at l later next
 puts_all {out} {at} {l} {later} {next} a h =
     subst (λ (bytes : List ℕ). Wrote out at bytes later next) (take_all (length out - at) l (omega arith)) a.part
+
+-- what a pen has put
+written_puts : (a : Pen) (s : List ℕ) → Puts a.out.now a.at s (written a s).out.now (written a s).at
+unfolding written
+written_puts a s = record { part = record { buffer = refl; place = refl } }
+
+pub writes_puts : {a b : Pen} {s : List ℕ} → Writes a s b → Puts a.out.now a.at s b.out.now b.at
+writes_puts {a} {b} {s} p = rw p.leaves (written_puts a s)
+
+-- and the other way, in the same buffer
+pub puts_writes :
+    {a b : Pen} {s : List ℕ}
+    → a.out.ref_ptr ≡ b.out.ref_ptr
+    → a.out.ghost_name ≡ b.out.ghost_name
+    → Puts a.out.now a.at s b.out.now b.at
+    → Writes a s b
+unfolding written
+puts_writes p g h =
+    record {
+      leaves = λ i. record { out = record { ref_ptr = sym p i; ghost_name = sym g i; now = h.part.buffer i }; at = h.part.place i };
+    }
+
+-- one thing after another
+pub written_then : (a : Pen) (s t : List ℕ) → written a (s ++ t) ≡ written (written a s) t
+unfolding written
+written_then a s t =
+    let both : Writes a (s ++ t) (written (written a s) t) = puts_writes refl refl (puts_then (written_puts a s) (written_puts (written a s) t)) in
+    sym both.leaves
+
+-- the same of what was written
+pub writes_then : {a b c : Pen} {s t : List ℕ} → Writes a s b → Writes b t c → Writes a (s ++ t) c
+writes_then {a} {b} {c} {s} {t} p q = record { leaves = q.leaves ∙ ap (λ (d : Pen). written d t) p.leaves ∙ sym (written_then a s t) }
+
+-- nothing written
+pub writes_none : (a : Pen) → Writes a [] a
+writes_none a = puts_writes refl refl (puts_none a.out.now a.at)
+
+pub written_none : (a : Pen) → written a [] ≡ a
+written_none a = let none = writes_none a in sym none.leaves
+
+-- one byte after another
+pub written_cons : (a : Pen) (x : ℕ) (s : List ℕ) → written a (x ∷ s) ≡ written (written a (x ∷ [])) s
+written_cons a x s = written_then a (x ∷ []) s
+
+-- the same buffer
+pub written_same : (a : Pen) (s : List ℕ) → (written a s).out.ghost_name ≡ a.out.ghost_name
+unfolding written
+written_same a s = refl
+
+-- what a function that writes one thing after another needs
+pub ruleset pens = (written_then, written_cons, written_none, written_same)
