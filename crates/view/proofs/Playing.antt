@@ -7,12 +7,11 @@ use native.Mathlib.Nat.{sub-zero, zero-sub}
 use native.Mathlib.Numerals.{add-one}
 use native.Mathlib.Omega.{arith}
 use lib.ListN.{length, take, drop, length-drop}
-use lib.Dec.{eqb}
 use lib.Seq.{take_all, drop-drop}
-use borrow.Author.Tests.{eqb-true, eqb-false}
 use Rattle.turn.specs.Turn.{After, after}
-use Rattle.pen.specs.Written.{Puts}
-use Rattle.pen.proofs.Putting.{puts_none}
+use Rattle.pen.specs.declared.Pen.{Pen}
+use Rattle.pen.specs.Written.{Writes}
+use Rattle.pen.proofs.Putting.{writes_then, writes_none}
 use Rattle.view.specs.declared.Stage.{Stage}
 use Rattle.view.specs.Stage.{shut, next_scene}
 use Rattle.view.specs.Telling.{stage_told}
@@ -173,25 +172,26 @@ abbrev pub told_on : List (After Stage) → ℕ → ℕ → List ℕ
 told_on all page n = all_told (take (n - 1024 * page) (drop (1024 * page) all))
 
 -- nothing yet
-pub page_starts : (all : List (After Stage)) (page : ℕ) (out : List ℕ) → Puts out 0 (told_on all page 0) out 0
+pub page_starts : (all : List (After Stage)) (page : ℕ) (pen : Pen) → Writes pen (told_on all page 0) pen
 unfolding all_told
-page_starts all page out = rw (zero-sub (1024 * page)) (puts_none out 0)
+page_starts all page pen = rw (zero-sub (1024 * page)) (writes_none pen)
 
 module _ (all : List (After Stage)) (page n : ℕ) (x : After Stage) (rest : List (After Stage)) (here : drop n all ≡ x ∷ rest) where
-  -- one more
-  pub page_next : n / 1024 ≤ page → (t : Bool) → eqb (n / 1024) page ≡ t → told_on all page (n + 1) ≡ told_on all page n ++ cond t (stage_told x) []
-  page_next before true on-it =
-      let same = eqb-true (n / 1024) page on-it in
-      let more : n + 1 - 1024 * page ≡ suc (n - 1024 * page) = omega arith in
+  -- one more, which stands on the page or before it
+  pub page_next : {a b c : Pen} → n / 1024 ≡ page → Writes a (told_on all page n) b → Writes b (stage_told x) c → Writes a (told_on all page (n + 1)) c
+  page_next on-it told more =
+      let next : n + 1 - 1024 * page ≡ suc (n - 1024 * page) = omega arith in
       let all_of : 1024 * page + (n - 1024 * page) ≡ n = omega arith in
-      rw more
-      (told_next (n - 1024 * page) (drop (1024 * page) all) x rest
+      rw next
+      (rw (told_next (n - 1024 * page) (drop (1024 * page) all) x rest
       (drop-drop (n - 1024 * page) (1024 * page) all ∙ ap (λ (m : ℕ). drop m all) all_of ∙ here))
-  page_next before false elsewhere =
-      let other = eqb-false (n / 1024) page elsewhere in
+      (writes_then told more))
+
+  pub page_before : {a b : Pen} → n / 1024 < page → Writes a (told_on all page n) b → Writes a (told_on all page (n + 1)) b
+  page_before before told =
       let none : n - 1024 * page ≡ 0 = omega arith in
       let still : n + 1 - 1024 * page ≡ 0 = omega arith in
-      rw (none, still, append-nil)
+      rw still (rw none at told)
 
   -- the last of all
   pub page_ends : rest ≡ [] → n / 1024 ≤ page → told_on all page (n + 1) ≡ all_told (take 1024 (drop (1024 * page) all))

@@ -1,9 +1,10 @@
 // A sheet played scene by scene, and told in words.
-#![tactic(auto)]
+#![tactic(auto, using(pen::proofs::Putting::pens))]
 
 ghost use Rattle.view.specs.Promises.{PageWritten, RefusalSaid};
 
 use engine::{Floor, Plan, Totals};
+use pen::Pen;
 use sheet::Call;
 use turn::{Report, Worker};
 
@@ -91,7 +92,12 @@ pub fn page_of(sheet: &[u8], page: usize, out: &mut [u8; ROOM]) -> Page
 {
     let mut board = [0u64; 2048];
     let words = sheet::words(sheet);
-    show::page(sheet, &mut board[..words], page, out)
+    let mut pen = Pen { out, at: 0 };
+    let last = show::page(&mut pen, sheet, &mut board[..words], page);
+    Page {
+        written: pen.at,
+        last,
+    }
 }
 
 // The sentence of a sheet's refusal, and nothing of a sheet that is not refused.
@@ -100,7 +106,7 @@ pub fn refusal(sheet: &[u8], out: &mut [u8; SAID]) -> usize
 {
     let mut board = [0u64; 2048];
     let words = sheet::words(sheet);
-    let stage = show::last(sheet, &mut board[..words]);
-    let scene = stage.scene;
-    show::refused(scene, out)
+    let mut pen = Pen { out, at: 0 };
+    show::refused(&mut pen, show::last(sheet, &mut board[..words]).scene);
+    pen.at
 }

@@ -1,197 +1,168 @@
 // The words of the other scenes, and of whichever scene a stage has come by.
+#![tactic(auto, using(pen::proofs::Putting::pens), unfolding(pen::specs::Words::bytes))]
+
 ghost use Rattle.turn.specs.Turn.{after};
-ghost use Rattle.pen.specs.Written.{Puts};
+ghost use Rattle.pen.specs.Written.{Writes};
 ghost use Rattle.view.specs.Telling.{open_told, ticket_told, begin_told, meaning, whose_told, why_told, stop_told, call_told, busy_told, busy_from, totals_told, over_told, scene_told, stage_told};
 
 use crate::{Scene, Stage, Stop, marking, turning};
 use engine::{Plan, Totals};
+use pen::Pen;
 use sheet::Call;
 use turn::{Worker, record, refusal};
 
 // ---- a floor, and a call
 
-fn opening(out: &mut [u8], at: usize, p: Plan) -> usize
-    ensures { Puts out.old at (open_told p) out.new result }
+#[tactic(auto, using(pen::proofs::Putting::pens), unfolding(pen::specs::Words::bytes, crate::specs::Telling::open_told))]
+fn opening(pen: &mut Pen<'_>, p: Plan)
+    ensures { Writes pen.old (open_told p) pen.new }
 {
-    let workers = marking::things(out, at, b"floor: ", p.workers as u64, b" worker");
-    let buckets = marking::things(out, workers, b", ", p.buckets as u64, b" bucket");
-    marking::line(out, buckets, b", version ", p.version as u64)
+    marking::things(pen, b"floor: ", p.workers as u64, b" worker");
+    marking::things(pen, b", ", p.buckets as u64, b" bucket");
+    marking::line(pen, b", version ", u64::from(p.version));
 }
 
 // The ticket, which only an insert has.
-fn ticket(out: &mut [u8], at: usize, kind: u8, ticket: u64) -> usize
-    ensures { Puts out.old at (ticket_told kind ticket) out.new result }
+#[tactic(auto, using(pen::proofs::Putting::pens), unfolding(pen::specs::Words::bytes, crate::specs::Telling::ticket_told))]
+fn ticket(pen: &mut Pen<'_>, kind: u8, ticket: u64)
+    ensures { Writes pen.old (ticket_told kind ticket) pen.new }
 {
     if kind == record::INSERT {
-        return pen::told(out, at, b", ticket ", ticket);
+        pen.told(b", ticket ", ticket);
     }
-    at
 }
 
-fn start(out: &mut [u8], at: usize, c: Call) -> usize
-    ensures { Puts out.old at (begin_told c) out.new result }
+#[tactic(auto, using(pen::proofs::Putting::pens), unfolding(pen::specs::Words::bytes, crate::specs::Telling::begin_told))]
+fn start(pen: &mut Pen<'_>, c: Call)
+    ensures { Writes pen.old (begin_told c) pen.new }
 {
-    let worker = pen::told(out, at, b"worker ", c.worker as u64);
-    let starts = pen::words(out, worker, b" starts: ");
-    let kind = turning::kind_name(out, starts, c.kind);
-    let lot = pen::told(out, kind, b" lot ", c.lot);
-    let bid = ticket(out, lot, c.kind, c.ticket);
-    pen::words(out, bid, b"\n")
+    pen.told(b"worker ", u64::from(c.worker));
+    pen.words(b" starts: ");
+    turning::kind_name(pen, c.kind);
+    pen.told(b" lot ", c.lot);
+    ticket(pen, c.kind, c.ticket);
+    pen.words(b"\n");
 }
 
 // ---- a refusal
 
 // What its number means.
-fn means(out: &mut [u8], at: usize, number: u8) -> usize
-    ensures { Puts out.old at (meaning number) out.new result }
+#[tactic(auto, using(pen::proofs::Putting::pens), unfolding(pen::specs::Words::bytes, crate::specs::Telling::meaning))]
+fn means(pen: &mut Pen<'_>, number: u8)
+    ensures { Writes pen.old (meaning number) pen.new }
 {
-    if number == refusal::WRONG_SIZES {
-        return pen::words(out, at, b"a floor has 1 to 64 workers and 1 to 256 buckets");
+    match number {
+        refusal::WRONG_SIZES => pen.words(b"a floor has 1 to 64 workers and 1 to 256 buckets"),
+        refusal::NO_WORKER => pen.words(b"the floor has no such worker"),
+        refusal::BROKEN_RECORD => pen.words(b"the record of the worker is broken"),
+        refusal::BUSY_WORKER => pen.words(b"the worker is at a call already"),
+        refusal::SPENT_TICKET => pen.words(b"the ticket is not greater than every one before it"),
+        refusal::IDLE_WORKER => pen.words(b"the worker is idle"),
+        refusal::BROKEN_BUCKET => pen.words(b"the bucket is broken"),
+        refusal::MALFORMED => pen.words(b"the field is not written as a field is"),
+        refusal::TOO_LONG => pen.words(b"the sheet is longer than 16384 bytes"),
+        _ => pen.words(b"there is no such number"),
     }
-    if number == refusal::NO_WORKER {
-        return pen::words(out, at, b"the floor has no such worker");
-    }
-    if number == refusal::BROKEN_RECORD {
-        return pen::words(out, at, b"the record of the worker is broken");
-    }
-    if number == refusal::BUSY_WORKER {
-        return pen::words(out, at, b"the worker is at a call already");
-    }
-    if number == refusal::SPENT_TICKET {
-        return pen::words(
-            out,
-            at,
-            b"the ticket is not greater than every one before it",
-        );
-    }
-    if number == refusal::IDLE_WORKER {
-        return pen::words(out, at, b"the worker is idle");
-    }
-    if number == refusal::BROKEN_BUCKET {
-        return pen::words(out, at, b"the bucket is broken");
-    }
-    if number == refusal::MALFORMED {
-        return pen::words(out, at, b"the field is not written as a field is");
-    }
-    if number == refusal::TOO_LONG {
-        return pen::words(out, at, b"the sheet is longer than 16384 bytes");
-    }
-    pen::words(out, at, b"there is no such number")
 }
 
 // Of a refused turn, which it would have been and whose.
-fn whose(out: &mut [u8], at: usize, turn: u32, worker: u8) -> usize
-    ensures { Puts out.old at (whose_told turn worker) out.new result }
+#[tactic(auto, using(pen::proofs::Putting::pens), unfolding(pen::specs::Words::bytes, crate::specs::Telling::whose_told))]
+fn whose(pen: &mut Pen<'_>, turn: u32, worker: u8)
+    ensures { Writes pen.old (whose_told turn worker) pen.new }
 {
-    if turn == 0 {
-        return at;
+    if turn != 0 {
+        pen.told(b", turn ", u64::from(turn));
+        pen.told(b" of worker ", u64::from(worker));
     }
-    let number = pen::told(out, at, b", turn ", turn as u64);
-    pen::told(out, number, b" of worker ", worker as u64)
 }
 
 // Its number and what it means.
-fn why(out: &mut [u8], at: usize, number: u8) -> usize
-    ensures { Puts out.old at (why_told number) out.new result }
+#[tactic(auto, using(pen::proofs::Putting::pens), unfolding(pen::specs::Words::bytes, crate::specs::Telling::why_told))]
+fn why(pen: &mut Pen<'_>, number: u8)
+    ensures { Writes pen.old (why_told number) pen.new }
 {
-    let by = pen::told(out, at, b"refused by ", number as u64);
-    let colon = pen::words(out, by, b": ");
-    means(out, colon, number)
+    pen.told(b"refused by ", u64::from(number));
+    pen.words(b": ");
+    means(pen, number);
 }
 
 // §9.3: a refusal: why, and of which field.
-pub fn stop(out: &mut [u8], at: usize, s: Stop) -> usize
-    ensures { Puts out.old at (stop_told s) out.new result }
+#[tactic(auto, using(pen::proofs::Putting::pens), unfolding(pen::specs::Words::bytes, crate::specs::Telling::stop_told))]
+pub fn stop(pen: &mut Pen<'_>, s: Stop)
+    ensures { Writes pen.old (stop_told s) pen.new }
 {
-    let because = why(out, at, s.number);
-    let field = pen::told(out, because, b"; field ", s.field as u64);
-    let offset = pen::told(out, field, b" at offset ", s.offset as u64);
-    let turn = whose(out, offset, s.turn, s.worker);
-    pen::words(out, turn, b"\n")
+    why(pen, s.number);
+    pen.told(b"; field ", s.field as u64);
+    pen.told(b" at offset ", s.offset as u64);
+    whose(pen, s.turn, s.worker);
+    pen.words(b"\n");
 }
 
 // ---- the end
 
 // A worker that is at a call.
-fn at_call(out: &mut [u8], at: usize, i: usize, w: Worker) -> usize
-    ensures { Puts out.old at (call_told i w) out.new result }
+#[tactic(auto, using(pen::proofs::Putting::pens), unfolding(pen::specs::Words::bytes, crate::specs::Telling::call_told))]
+fn at_call(pen: &mut Pen<'_>, i: usize, w: Worker)
+    ensures { Writes pen.old (call_told i w) pen.new }
 {
-    let worker = pen::told(out, at, b"  worker ", i as u64);
-    let still = pen::words(out, worker, b" is still at its ");
-    let kind = turning::kind_name(out, still, w.kind);
-    marking::line(out, kind, b" of lot ", w.key)
+    pen.told(b"  worker ", i as u64);
+    pen.words(b" is still at its ");
+    turning::kind_name(pen, w.kind);
+    marking::line(pen, b" of lot ", w.key);
 }
 
-fn busy(out: &mut [u8], at: usize, i: usize, w: Worker) -> usize
-    ensures { Puts out.old at (busy_told i w) out.new result }
+#[tactic(auto, using(pen::proofs::Putting::pens), unfolding(pen::specs::Words::bytes, crate::specs::Telling::busy_told))]
+fn busy(pen: &mut Pen<'_>, i: usize, w: Worker)
+    ensures { Writes pen.old (busy_told i w) pen.new }
 {
-    if record::is_idle(w) {
-        return at;
+    if !record::is_idle(w) {
+        at_call(pen, i, w);
     }
-    at_call(out, at, i, w)
 }
 
 // Every worker that is still at a call.
-fn everyone(out: &mut [u8], at: usize, records: [Worker; 64]) -> usize
-    ensures { Puts out.old at (busy_from 0 records) out.new result }
+#[tactic(auto, using(pen::proofs::Putting::pens, crate::proofs::Everyone::busy_more, std::proofs::lemmas::Grind::common_steps), unfolding(crate::specs::Telling::busy_from))]
+fn everyone(pen: &mut Pen<'_>, records: &[Worker; 64])
+    ensures { Writes pen.old (busy_from 0 records.now) pen.new }
 {
-    let mut next = at;
-    let mut i = 0;
-    while i < 64 {
-        let w = records[i];
-        next = busy(out, next, i, w);
-        i += 1;
+    for (i, &w) in records.iter().enumerate() {
+        busy(pen, i, w);
     }
-    next
 }
 
 // What the turns come to.
-fn totals(out: &mut [u8], at: usize, t: Totals) -> usize
-    ensures { Puts out.old at (totals_told t) out.new result }
+#[tactic(auto, using(pen::proofs::Putting::pens), unfolding(pen::specs::Words::bytes, crate::specs::Telling::totals_told))]
+fn totals(pen: &mut Pen<'_>, t: Totals)
+    ensures { Writes pen.old (totals_told t) pen.new }
 {
-    let turns = marking::things(out, at, b"; ", t.turns as u64, b" turn");
-    let changes = marking::things(out, turns, b", ", t.changes as u64, b" change");
-    let lost = marking::things(out, changes, b", ", t.lost as u64, b" lost swap");
-    marking::things(out, lost, b", ", t.full as u64, b" full round")
+    marking::things(pen, b"; ", u64::from(t.turns), b" turn");
+    marking::things(pen, b", ", u64::from(t.changes), b" change");
+    marking::things(pen, b", ", u64::from(t.lost), b" lost swap");
+    marking::things(pen, b", ", u64::from(t.full), b" full round");
 }
 
-fn end(out: &mut [u8], at: usize, lots: usize, t: Totals, records: [Worker; 64]) -> usize
-    ensures { Puts out.old at (over_told lots t records) out.new result }
+#[tactic(auto, using(pen::proofs::Putting::pens), unfolding(pen::specs::Words::bytes, crate::specs::Telling::over_told))]
+fn end(pen: &mut Pen<'_>, lots: usize, t: Totals, records: &[Worker; 64])
+    ensures { Writes pen.old (over_told lots t records.now) pen.new }
 {
-    let stand = marking::things(out, at, b"end: ", lots as u64, b" lot");
-    let turns = totals(out, stand, t);
-    let done = pen::words(out, turns, b"\n");
-    everyone(out, done, records)
+    marking::things(pen, b"end: ", lots as u64, b" lot");
+    totals(pen, t);
+    pen.words(b"\n");
+    everyone(pen, records);
 }
 
 // ---- whichever it is
 
-fn scene(
-    out: &mut [u8],
-    at: usize,
-    board: &[u64],
-    t: Totals,
-    records: [Worker; 64],
-    scene: Scene,
-) -> usize
-    ensures { Puts out.old at (scene_told board.now t records scene) out.new result }
-{
-    match scene {
-        Scene::Nothing => at,
-        Scene::Opened(p) => opening(out, at, p),
-        Scene::Began(c) => start(out, at, c),
-        Scene::Turned(a) => turning::turn(out, at, board, t.turns, a),
-        Scene::Stopped(s) => stop(out, at, s),
-        Scene::Over(lots) => end(out, at, lots, t, records),
-    }
-}
-
 // The words of the scene that a stage has come by.
-pub fn stage(board: &[u64], stage: Stage, out: &mut [u8], at: usize) -> usize
-    ensures { Puts out.old at (stage_told (after board.now stage)) out.new result }
+pub fn stage(pen: &mut Pen<'_>, board: &[u64], stage: &Stage)
+    ensures { Writes pen.old (stage_told (after board.now stage.now)) pen.new }
 {
-    let t = stage.totals;
-    let records = stage.records;
-    let s = stage.scene;
-    scene(out, at, board, t, records, s)
+    match stage.scene {
+        Scene::Nothing => {}
+        Scene::Opened(p) => opening(pen, p),
+        Scene::Began(c) => start(pen, c),
+        Scene::Turned(a) => turning::turn(pen, board, stage.totals.turns, a),
+        Scene::Stopped(s) => stop(pen, s),
+        Scene::Over(lots) => end(pen, lots, stage.totals, &stage.records),
+    }
 }

@@ -1,382 +1,288 @@
-// The words of a turn. Each function writes from a place on, as far as there is room, and tells the place after what it wrote.
+// The words of a turn, with a pen.
+#![tactic(auto, using(pen::proofs::Putting::pens), unfolding(pen::specs::Words::bytes))]
+
 ghost use Rattle.std.specs.Prelude.{◌&&◌, ◌||◌, not, ◌≡◌, ◌++◌, ◌+◌, eqb};
-ghost use Rattle.pen.specs.Written.{Puts};
+ghost use Rattle.pen.specs.Written.{Writes};
 ghost use Rattle.pen.specs.Words.{bytes};
 ghost use Rattle.view.specs.Telling.{told, mark_told, cell_on, read_told, outcome_told, swap_told, store_told, writes_told, does_told, is_won, is_lost, goes_on};
 ghost use Rattle.view.specs.Telling.{new_word, new_ticket, new_held, new_slot, full_told, blame_told, lost_told, kind_name, answer_told, end_told, learnt_told, news_told, head_told, turn_told};
 
 use crate::{Acted, Change, marking};
+use pen::Pen;
 use turn::{Action, Progress, Report, Worker, record};
 
 // ---- what a turn does
 
 // Words, a slot and what was read there.
-fn reads(
-    out: &mut [u8],
-    at: usize,
-    said: &[u8],
-    board: &[u64],
-    bucket: usize,
-    first: u8,
-    slot: u8,
-) -> usize
-    ensures { Puts out.old at (read_told said.now slot (cell_on board.now bucket (first + slot))) out.new result }
+#[tactic(auto, using(pen::proofs::Putting::pens), unfolding(pen::specs::Words::bytes, crate::specs::Telling::read_told))]
+fn reads(pen: &mut Pen<'_>, said: &[u8], board: &[u64], bucket: usize, first: u8, slot: u8)
+    ensures { Writes pen.old (read_told said.now slot (cell_on board.now bucket (first + slot))) pen.new }
 {
-    let slot_at = pen::told(out, at, said, slot as u64);
-    marking::cell_word(out, slot_at, b": ", board, bucket, first, slot)
+    pen.told(said, u64::from(slot));
+    marking::cell_word(pen, b": ", board, bucket, first, slot);
 }
 
-fn outcome(out: &mut [u8], at: usize, action: Action) -> usize
-    ensures { Puts out.old at (outcome_told action) out.new result }
+#[tactic(auto, using(pen::proofs::Putting::pens), unfolding(pen::specs::Words::bytes, crate::specs::Telling::outcome_told))]
+fn outcome(pen: &mut Pen<'_>, action: Action)
+    ensures { Writes pen.old (outcome_told action) pen.new }
 {
     match action {
-        Action::Read => at,
-        Action::Store => at,
-        Action::Won => pen::words(out, at, b": won"),
-        Action::Lost => pen::words(out, at, b": lost"),
+        Action::Read | Action::Store => {}
+        Action::Won => pen.words(b": won"),
+        Action::Lost => pen.words(b": lost"),
     }
 }
 
 // Words, a slot, more words, and how the swap came out.
-fn swaps(out: &mut [u8], at: usize, said: &[u8], slot: u8, more: &[u8], action: Action) -> usize
-    ensures { Puts out.old at (swap_told said.now slot more.now action) out.new result }
+#[tactic(auto, using(pen::proofs::Putting::pens), unfolding(pen::specs::Words::bytes, crate::specs::Telling::swap_told))]
+fn swaps(pen: &mut Pen<'_>, said: &[u8], slot: u8, more: &[u8], action: Action)
+    ensures { Writes pen.old (swap_told said.now slot more.now action) pen.new }
 {
-    let slot_at = pen::told(out, at, said, slot as u64);
-    let what = pen::words(out, slot_at, more);
-    outcome(out, what, action)
+    pen.told(said, u64::from(slot));
+    pen.words(more);
+    outcome(pen, action);
 }
 
 // Words, what was written, and into which slot.
-fn stores(out: &mut [u8], at: usize, said: &[u8], value: u64, slot: u8) -> usize
-    ensures { Puts out.old at (store_told said.now value slot) out.new result }
+#[tactic(auto, using(pen::proofs::Putting::pens), unfolding(pen::specs::Words::bytes, crate::specs::Telling::store_told))]
+fn stores(pen: &mut Pen<'_>, said: &[u8], value: u64, slot: u8)
+    ensures { Writes pen.old (store_told said.now value slot) pen.new }
 {
-    let what = pen::told(out, at, said, value);
-    pen::told(out, what, b" into slot ", slot as u64)
+    pen.told(said, value);
+    pen.told(b" into slot ", u64::from(slot));
 }
 
 // Whether a ticket is read at a place, to be remembered.
 fn reads_ticket(place: u8) -> bool
     ensures { result ≡ (eqb place 2 || eqb place 12) }
 {
-    if place == 2 {
-        return true;
-    }
-    place == 12
+    place == 2 || place == 12
 }
 
 // Whether a lot is read at a place.
 fn reads_lot(place: u8) -> bool
     ensures { result ≡ (eqb place 4 || eqb place 11) }
 {
-    if place == 4 {
-        return true;
-    }
-    place == 11
+    place == 4 || place == 11
 }
 
 // The mark of a slot, as the turn found it.
-fn reads_mark(out: &mut [u8], at: usize, word: u64, slot: u8) -> usize
-    ensures { Puts out.old at (told (bytes "reads the mark of slot ") slot ++ mark_told (bytes ": ") word slot) out.new result }
+fn reads_mark(pen: &mut Pen<'_>, word: u64, slot: u8)
+    ensures { Writes pen.old (told (bytes "reads the mark of slot ") slot ++ mark_told (bytes ": ") word slot) pen.new }
 {
-    let slot_at = pen::told(out, at, b"reads the mark of slot ", slot as u64);
-    marking::slot_mark(out, slot_at, b": ", word, slot)
+    pen.told(b"reads the mark of slot ", u64::from(slot));
+    marking::slot_mark(pen, b": ", word, slot);
 }
 
 // A turn that writes, by the place of the worker's record.
-fn writes(out: &mut [u8], at: usize, w: Worker, action: Action) -> usize
-    ensures { Puts out.old at (writes_told w action) out.new result }
+#[tactic(auto, using(pen::proofs::Putting::pens), unfolding(pen::specs::Words::bytes, crate::specs::Telling::writes_told))]
+fn writes(pen: &mut Pen<'_>, w: Worker, action: Action)
+    ensures { Writes pen.old (writes_told w action) pen.new }
 {
-    if w.place == 6 {
-        return swaps(
-            out,
-            at,
+    match w.place {
+        6 => swaps(
+            pen,
             b"swaps slot ",
             w.slot,
             b" from empty to being inserted",
             action,
-        );
-    }
-    if w.place == 7 {
-        return stores(out, at, b"writes ticket ", w.ticket, w.held);
-    }
-    if w.place == 8 {
-        return stores(out, at, b"writes lot ", w.key, w.held);
-    }
-    if w.place == 9 {
-        return swaps(
-            out,
-            at,
+        ),
+        7 => stores(pen, b"writes ticket ", w.ticket, w.held),
+        8 => stores(pen, b"writes lot ", w.key, w.held),
+        9 => swaps(
+            pen,
             b"swaps slot ",
             w.held,
             b" from being inserted to valid, version plus one",
             action,
-        );
-    }
-    if w.place == 10 {
-        return swaps(
-            out,
-            at,
+        ),
+        10 => swaps(
+            pen,
             b"gives back slot ",
             w.held,
             b", from being inserted to empty",
             action,
-        );
+        ),
+        _ => swaps(pen, b"swaps slot ", w.slot, b" from valid to empty", action),
     }
-    swaps(
-        out,
-        at,
-        b"swaps slot ",
-        w.slot,
-        b" from valid to empty",
-        action,
-    )
 }
 
 // The memory action of a turn.
-fn does(out: &mut [u8], at: usize, board: &[u64], w: Worker, report: Report) -> usize
-    ensures { Puts out.old at (does_told board.now w report) out.new result }
+#[tactic(auto, using(pen::proofs::Putting::pens), unfolding(pen::specs::Words::bytes, crate::specs::Telling::does_told))]
+fn does(pen: &mut Pen<'_>, board: &[u64], w: Worker, report: Report)
+    ensures { Writes pen.old (does_told board.now w report) pen.new }
 {
     let bucket = report.bucket;
-    let action = report.action;
-    if w.place == 1 {
-        return pen::words(out, at, b"reads the mark word whole");
-    }
-    if reads_ticket(w.place) {
-        return reads(
-            out,
-            at,
-            b"reads the ticket in slot ",
-            board,
-            bucket,
-            4,
-            w.slot,
-        );
-    }
-    if w.place == 3 {
-        return reads_mark(out, at, report.before, w.slot);
-    }
-    if reads_lot(w.place) {
-        return reads(out, at, b"reads the lot in slot ", board, bucket, 1, w.slot);
-    }
-    if w.place == 5 {
-        return reads(
-            out,
-            at,
+    match w.place {
+        1 => pen.words(b"reads the mark word whole"),
+        2 | 12 => reads(pen, b"reads the ticket in slot ", board, bucket, 4, w.slot),
+        3 => reads_mark(pen, report.before, w.slot),
+        4 | 11 => reads(pen, b"reads the lot in slot ", board, bucket, 1, w.slot),
+        5 => reads(
+            pen,
             b"reads the ticket again in slot ",
             board,
             bucket,
             4,
             w.slot,
-        );
+        ),
+        _ => writes(pen, w, report.action),
     }
-    writes(out, at, w, action)
 }
 
 // ---- what is new in the worker's memory: a line each, where there is one
-
-fn is_won(action: Action) -> bool
-    ensures { result ≡ is_won action }
-{
-    match action {
-        Action::Read => false,
-        Action::Store => false,
-        Action::Won => true,
-        Action::Lost => false,
-    }
-}
 
 // Whether a slot was claimed.
 fn claims(place: u8, action: Action) -> bool
     ensures { result ≡ (eqb place 6 && is_won action) }
 {
-    if place == 6 {
-        return is_won(action);
-    }
-    false
+    place == 6 && action == Action::Won
 }
 
-// Whether there is a mark word to remember.
-fn learns_word(place: u8, action: Action) -> bool
-    ensures { result ≡ (eqb place 1 || (eqb place 6 && is_won action)) }
+// The mark word, which is read whole at place 1 and changed by a claim.
+#[tactic(auto, using(pen::proofs::Putting::pens), unfolding(pen::specs::Words::bytes, crate::specs::Telling::new_word))]
+fn new_word(pen: &mut Pen<'_>, w: Worker, v: Worker, action: Action)
+    ensures { Writes pen.old (new_word w v action) pen.new }
 {
-    if place == 1 {
-        return true;
+    if w.place == 1 || claims(w.place, action) {
+        marking::mark_word(pen, b"  remembers version ", v.word);
     }
-    claims(place, action)
 }
 
-fn new_word(out: &mut [u8], at: usize, w: Worker, v: Worker, action: Action) -> usize
-    ensures { Puts out.old at (new_word w v action) out.new result }
-{
-    if learns_word(w.place, action) {
-        return marking::mark_word(out, at, b"  remembers version ", v.word);
-    }
-    at
-}
-
-fn new_ticket(out: &mut [u8], at: usize, w: Worker, v: Worker) -> usize
-    ensures { Puts out.old at (new_ticket w v) out.new result }
+#[tactic(auto, using(pen::proofs::Putting::pens), unfolding(pen::specs::Words::bytes, crate::specs::Telling::new_ticket))]
+fn new_ticket(pen: &mut Pen<'_>, w: Worker, v: Worker)
+    ensures { Writes pen.old (new_ticket w v) pen.new }
 {
     if reads_ticket(w.place) {
-        return marking::line(out, at, b"  remembers ticket ", v.seen);
+        marking::line(pen, b"  remembers ticket ", v.seen);
     }
-    at
 }
 
-fn new_held(out: &mut [u8], at: usize, w: Worker, v: Worker, action: Action) -> usize
-    ensures { Puts out.old at (new_held w v action) out.new result }
+#[tactic(auto, using(pen::proofs::Putting::pens), unfolding(pen::specs::Words::bytes, crate::specs::Telling::new_held))]
+fn new_held(pen: &mut Pen<'_>, w: Worker, v: Worker, action: Action)
+    ensures { Writes pen.old (new_held w v action) pen.new }
 {
     if claims(w.place, action) {
-        return marking::line(out, at, b"  holds slot ", v.held as u64);
+        marking::line(pen, b"  holds slot ", u64::from(v.held));
     }
-    at
 }
 
-// Whether the call goes on at another slot.
-fn moves(w: Worker, v: Worker, progress: Progress) -> bool
-    ensures { result ≡ (goes_on progress && not (eqb v.slot w.slot)) }
+// The slot that it is at, where the call goes on at another.
+#[tactic(auto, using(pen::proofs::Putting::pens), unfolding(pen::specs::Words::bytes, crate::specs::Telling::new_slot))]
+fn new_slot(pen: &mut Pen<'_>, w: Worker, v: Worker, progress: Progress)
+    ensures { Writes pen.old (new_slot w v progress) pen.new }
 {
     match progress {
-        Progress::GoesOn => v.slot != w.slot,
-        Progress::Ended(answer) => false,
+        Progress::GoesOn if v.slot != w.slot => marking::line(
+            pen,
+            b"  is at slot ",
+            u64::from(v.slot),
+        ),
+        _ => {}
     }
 }
 
-fn new_slot(out: &mut [u8], at: usize, w: Worker, v: Worker, progress: Progress) -> usize
-    ensures { Puts out.old at (new_slot w v progress) out.new result }
-{
-    if moves(w, v, progress) {
-        return marking::line(out, at, b"  is at slot ", v.slot as u64);
-    }
-    at
-}
-
-fn full_round(out: &mut [u8], at: usize, full: bool) -> usize
-    ensures { Puts out.old at (full_told full) out.new result }
+#[tactic(auto, using(pen::proofs::Putting::pens), unfolding(pen::specs::Words::bytes, crate::specs::Telling::full_told))]
+fn full_round(pen: &mut Pen<'_>, full: bool)
+    ensures { Writes pen.old (full_told full) pen.new }
 {
     if full {
-        return pen::words(
-            out,
-            at,
-            b"  finds no empty slot, and begins again: a full round\n",
-        );
-    }
-    at
-}
-
-fn is_lost(action: Action) -> bool
-    ensures { result ≡ is_lost action }
-{
-    match action {
-        Action::Read => false,
-        Action::Store => false,
-        Action::Won => false,
-        Action::Lost => true,
+        pen.words(b"  finds no empty slot, and begins again: a full round\n");
     }
 }
 
 // What a worker went by, and who has changed the mark word since.
-fn blames(out: &mut [u8], at: usize, word: u64, change: Change) -> usize
-    ensures { Puts out.old at (blame_told word change) out.new result }
+#[tactic(auto, using(pen::proofs::Putting::pens), unfolding(pen::specs::Words::bytes, crate::specs::Telling::blame_told))]
+fn blames(pen: &mut Pen<'_>, word: u64, change: Change)
+    ensures { Writes pen.old (blame_told word change) pen.new }
 {
-    let went_by = marking::mark_word(out, at, b"  went by version ", word);
-    let who = pen::told(out, went_by, b"  but worker ", change.worker as u64);
-    let when = pen::told(out, who, b" changed the word at turn ", change.turn as u64);
-    pen::words(out, when, b", so it begins again\n")
+    marking::mark_word(pen, b"  went by version ", word);
+    pen.told(b"  but worker ", u64::from(change.worker));
+    pen.told(b" changed the word at turn ", u64::from(change.turn));
+    pen.words(b", so it begins again\n");
 }
 
-fn lost_swap(out: &mut [u8], at: usize, w: Worker, action: Action, change: Change) -> usize
-    ensures { Puts out.old at (lost_told w action change) out.new result }
+#[tactic(auto, using(pen::proofs::Putting::pens), unfolding(pen::specs::Words::bytes, crate::specs::Telling::lost_told))]
+fn lost_swap(pen: &mut Pen<'_>, w: Worker, action: Action, change: Change)
+    ensures { Writes pen.old (lost_told w action change) pen.new }
 {
-    if is_lost(action) {
-        return blames(out, at, w.word, change);
+    if action == Action::Lost {
+        blames(pen, w.word, change);
     }
-    at
 }
 
-pub fn kind_name(out: &mut [u8], at: usize, kind: u8) -> usize
-    ensures { Puts out.old at (kind_name kind) out.new result }
+#[tactic(auto, using(pen::proofs::Putting::pens), unfolding(pen::specs::Words::bytes, crate::specs::Telling::kind_name))]
+pub fn kind_name(pen: &mut Pen<'_>, kind: u8)
+    ensures { Writes pen.old (kind_name kind) pen.new }
 {
-    if kind == record::LOOK {
-        return pen::words(out, at, b"look");
+    match kind {
+        record::LOOK => pen.words(b"look"),
+        record::INSERT => pen.words(b"insert"),
+        _ => pen.words(b"remove"),
     }
-    if kind == record::INSERT {
-        return pen::words(out, at, b"insert");
-    }
-    pen::words(out, at, b"remove")
 }
 
 // §9.1: a call that has ended, with its answer.
-fn answers(out: &mut [u8], at: usize, kind: u8, answer: u64) -> usize
-    ensures { Puts out.old at (answer_told kind answer) out.new result }
+#[tactic(auto, using(pen::proofs::Putting::pens), unfolding(pen::specs::Words::bytes, crate::specs::Telling::answer_told))]
+fn answers(pen: &mut Pen<'_>, kind: u8, answer: u64)
+    ensures { Writes pen.old (answer_told kind answer) pen.new }
 {
-    let its = pen::words(out, at, b"  its ");
-    let call = kind_name(out, its, kind);
-    marking::line(out, call, b" ends with ", answer)
+    pen.words(b"  its ");
+    kind_name(pen, kind);
+    marking::line(pen, b" ends with ", answer);
 }
 
-fn ends(out: &mut [u8], at: usize, kind: u8, progress: Progress) -> usize
-    ensures { Puts out.old at (end_told kind progress) out.new result }
+#[tactic(auto, using(pen::proofs::Putting::pens), unfolding(pen::specs::Words::bytes, crate::specs::Telling::end_told))]
+fn ends(pen: &mut Pen<'_>, kind: u8, progress: Progress)
+    ensures { Writes pen.old (end_told kind progress) pen.new }
 {
-    match progress {
-        Progress::GoesOn => at,
-        Progress::Ended(answer) => answers(out, at, kind, answer),
+    if let Progress::Ended(answer) = progress {
+        answers(pen, kind, answer);
     }
 }
 
 // What is new in the memory of the worker itself.
-fn learns(
-    out: &mut [u8],
-    at: usize,
-    w: Worker,
-    v: Worker,
-    action: Action,
-    progress: Progress,
-) -> usize
-    ensures { Puts out.old at (learnt_told w v action progress) out.new result }
+#[tactic(auto, using(pen::proofs::Putting::pens), unfolding(pen::specs::Words::bytes, crate::specs::Telling::learnt_told))]
+fn learns(pen: &mut Pen<'_>, w: Worker, v: Worker, action: Action, progress: Progress)
+    ensures { Writes pen.old (learnt_told w v action progress) pen.new }
 {
-    let word = new_word(out, at, w, v, action);
-    let ticket = new_ticket(out, word, w, v);
-    let held = new_held(out, ticket, w, v, action);
-    new_slot(out, held, w, v, progress)
+    new_word(pen, w, v, action);
+    new_ticket(pen, w, v);
+    new_held(pen, w, v, action);
+    new_slot(pen, w, v, progress);
 }
 
 // What is new, and how the call stands.
-fn news(out: &mut [u8], at: usize, a: Acted) -> usize
-    ensures { Puts out.old at (news_told a) out.new result }
+#[tactic(auto, using(pen::proofs::Putting::pens), unfolding(pen::specs::Words::bytes, crate::specs::Telling::news_told))]
+fn news(pen: &mut Pen<'_>, a: Acted)
+    ensures { Writes pen.old (news_told a) pen.new }
 {
-    let w = a.before;
-    let v = a.after;
-    let report = a.report;
-    let change = a.change;
-    let action = report.action;
-    let progress = report.progress;
-    let own = learns(out, at, w, v, action, progress);
-    let round = full_round(out, own, report.full);
-    let swap = lost_swap(out, round, w, action, change);
-    ends(out, swap, w.kind, progress)
+    let (w, report) = (a.before, a.report);
+    learns(pen, w, a.after, report.action, report.progress);
+    full_round(pen, report.full);
+    lost_swap(pen, w, report.action, a.change);
+    ends(pen, w.kind, report.progress);
 }
 
 // ---- the turn
 
 // The worker and what it does.
-fn head(out: &mut [u8], at: usize, board: &[u64], turn: u32, a: Acted) -> usize
-    ensures { Puts out.old at (head_told board.now turn a) out.new result }
+#[tactic(auto, using(pen::proofs::Putting::pens), unfolding(pen::specs::Words::bytes, crate::specs::Telling::head_told))]
+fn head(pen: &mut Pen<'_>, board: &[u64], turn: u32, a: Acted)
+    ensures { Writes pen.old (head_told board.now turn a) pen.new }
 {
-    let w = a.before;
-    let report = a.report;
-    let number = pen::told(out, at, b"turn ", turn as u64);
-    let worker = pen::told(out, number, b": worker ", a.worker as u64);
-    let space = pen::words(out, worker, b" ");
-    let done = does(out, space, board, w, report);
-    pen::words(out, done, b"\n")
+    pen.told(b"turn ", u64::from(turn));
+    pen.told(b": worker ", u64::from(a.worker));
+    pen.words(b" ");
+    does(pen, board, a.before, a.report);
+    pen.words(b"\n");
 }
 
-pub fn turn(out: &mut [u8], at: usize, board: &[u64], turn: u32, a: Acted) -> usize
-    ensures { Puts out.old at (turn_told board.now turn a) out.new result }
+#[tactic(auto, using(pen::proofs::Putting::pens), unfolding(pen::specs::Words::bytes, crate::specs::Telling::turn_told))]
+pub fn turn(pen: &mut Pen<'_>, board: &[u64], turn: u32, a: Acted)
+    ensures { Writes pen.old (turn_told board.now turn a) pen.new }
 {
-    let report = a.report;
-    let who = head(out, at, board, turn, a);
-    let new = news(out, who, a);
-    marking::bucket(out, new, board, report.bucket)
+    head(pen, board, turn, a);
+    news(pen, a);
+    marking::bucket(pen, board, a.report.bucket);
 }
