@@ -13,10 +13,8 @@ use Rattle.turn.specs.Turn.{Turned, After, after}
 use Rattle.engine.specs.Refusals.{turn_number}
 use Rattle.engine.specs.Calls.{turned, turn_call}
 use Rattle.sheet.specs.declared.Call as Field
-use Rattle.sheet.specs.declared.Read.{Read}
 use Rattle.sheet.specs.declared.Field.TheVariants.{Opening, Calling, Turning}
-use Rattle.sheet.specs.declared.Read.TheVariants.{Whole, Refused}
-use Rattle.sheet.specs.Fields.{read_field}
+use Rattle.sheet.specs.Fields.{Read, Whole, Refused, read_field}
 use Rattle.sheet.specs.Play.{Desk, Outcome, record_of, call_field, turn_listed, turn_at_desk, turns_done, turns_in}
 use Rattle.sheet.specs.Listing.{Told, told, Ending, told_first, listed_first, told_refusal, told_totals, after_field, one_field, fields_from}
 use Rattle.sheet.proofs.Fielding.{later_field, whole_next}

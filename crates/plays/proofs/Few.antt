@@ -7,11 +7,9 @@ use lib.Dec.{eqb}
 use lib.ListN.{length, drop, length-append, length-drop, length-map}
 use lib.Seq.{length-take-le}
 use Rattle.mark.proofs.Choices.{by_cases}
-use Rattle.sheet.specs.declared.Read.{Read}
 use Rattle.sheet.specs.declared.Span.{Span}
 use Rattle.sheet.specs.declared.Field.TheVariants.{Opening, Calling, Turning}
-use Rattle.sheet.specs.declared.Read.TheVariants.{Whole, Refused}
-use Rattle.sheet.specs.Fields.{read_field}
+use Rattle.sheet.specs.Fields.{Read, Whole, Refused, read_field}
 use Rattle.sheet.specs.Play.{call_field, turn_at_desk, turns_in}
 use Rattle.sheet.proofs.Fielding.{whole_next, whole_turns}
 use Rattle.history.specs.History.{State, Call, FewInserts}

@@ -10,8 +10,7 @@ use Rattle.engine.specs.declared.Plan.{Plan}
 use Rattle.engine.specs.Calls.{planned}
 use Rattle.engine.proofs.Sizes.{opens_right}
 use Rattle.sheet.specs.declared.Field.TheVariants.{Opening}
-use Rattle.sheet.specs.declared.Read.TheVariants.{Whole}
-use Rattle.sheet.specs.Fields.{read_field}
+use Rattle.sheet.specs.Fields.{Whole, read_field}
 use Rattle.sheet.specs.Listing.{words_asked, own_play, listing}
 use Rattle.history.specs.History as History
 use Rattle.history.specs.History.{Call, opened, trace}

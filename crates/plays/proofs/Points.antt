@@ -8,10 +8,8 @@ use lib.Dec.{eqb}
 use lib.ListN.{length}
 use borrow.Author.Tests.{eqb-true, eqb-false}
 use Rattle.mark.proofs.Choices.{by_cases}
-use Rattle.sheet.specs.declared.Read.{Read}
 use Rattle.sheet.specs.declared.Field.TheVariants.{Opening, Calling, Turning}
-use Rattle.sheet.specs.declared.Read.TheVariants.{Whole, Refused}
-use Rattle.sheet.specs.Fields.{read_field}
+use Rattle.sheet.specs.Fields.{Read, Whole, Refused, read_field}
 use Rattle.sheet.specs.Play.{call_field, turn_at_desk, turns_in}
 use Rattle.history.specs.History as History
 use Rattle.history.specs.History.{Call}

@@ -10,10 +10,8 @@ use Rattle.mark.proofs.Choices.{by_cases}
 use Rattle.turn.specs.Worker.{insert_kind}
 use Rattle.engine.specs.declared.Plan.{Plan}
 use Rattle.sheet.specs.declared.Call.{Call}
-use Rattle.sheet.specs.declared.Read.{Read}
 use Rattle.sheet.specs.declared.Field.TheVariants.{Opening, Calling}
-use Rattle.sheet.specs.declared.Read.TheVariants.{Whole}
-use Rattle.sheet.specs.Fields.{byte_at, number_at, ticket_at, plan_at, call_at, read_field}
+use Rattle.sheet.specs.Fields.{Read, Whole, byte_at, number_at, ticket_at, plan_at, call_at, read_field}
 use Rattle.sheet.proofs.Fitting.{fits_within}
 use Rattle.sheet.proofs.Fielding.{Reading, opening_read, calling_read, turning_read, not_read, reading, first_field}
 use Rattle.plays.specs.Points.{Bytes}

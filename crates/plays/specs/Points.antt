@@ -6,9 +6,7 @@ use Rattle.turn.specs.Turn.{After, after}
 use Rattle.engine.specs.declared.Plan.{Plan}
 use Rattle.sheet.specs.declared.Call as Field
 use Rattle.sheet.specs.declared.Field.TheVariants.{Opening, Calling, Turning}
-use Rattle.sheet.specs.declared.Read.{Read}
-use Rattle.sheet.specs.declared.Read.TheVariants.{Whole, Refused}
-use Rattle.sheet.specs.Fields.{byte_at, read_field}
+use Rattle.sheet.specs.Fields.{Read, Whole, Refused, byte_at, read_field}
 use Rattle.sheet.specs.Play.{Desk, Outcome, shut_desk, open_field, call_field, turn_at_desk, turns_in}
 use Rattle.history.specs.History.{Call, look, insert, remove, turn, ticket}
 

@@ -10,9 +10,7 @@ use lib.Seq.{get_or-drop}
 use borrow.Author.Tests.{eqb-true, eqb-false, leb-true, not-true, eq-eqb, ne_eqb}
 use Rattle.mark.proofs.Choices.{by_cases, not_both}
 use Rattle.sheet.specs.declared.Field.TheVariants.{Opening, Calling, Turning}
-use Rattle.sheet.specs.declared.Read.{Read}
-use Rattle.sheet.specs.declared.Read.TheVariants.{Whole, Refused}
-use Rattle.sheet.specs.Fields.{byte_at, number_at, length_at, is_whole, plan_at, call_fits, ticket_at, call_at, span_at, opening_at, calling_at, turning_at, field_of, read_field, Bytes}
+use Rattle.sheet.specs.Fields.{Read, Whole, Refused, byte_at, number_at, length_at, is_whole, plan_at, call_fits, ticket_at, call_at, span_at, opening_at, calling_at, turning_at, field_of, read_field, Bytes}
 use Rattle.sheet.specs.Play.{turns_in}
 use Rattle.sheet.proofs.Fitting.{CallFits, fits_short, fits_four, fits_eight}
 use Rattle.schedule.specs.Bytes.{high_first, floor_bytes, ticket_bytes, call_bytes, turns_bytes}

@@ -8,9 +8,7 @@ use lib.Dec.{eqb}
 use lib.ListN.{length}
 use borrow.Author.Tests.{eq-eqb, ne_eqb}
 use Rattle.engine.specs.declared.Plan.{Plan}
-use Rattle.sheet.specs.declared.Read.{Read}
-use Rattle.sheet.specs.declared.Read.TheVariants.{Whole, Refused}
-use Rattle.sheet.specs.Fields.{byte_at, number_at, length_at, plan_at, call_at, span_at, Bytes}
+use Rattle.sheet.specs.Fields.{Read, Whole, Refused, byte_at, number_at, length_at, plan_at, call_at, span_at, Bytes}
 use Rattle.sheet.specs.Play.{turns_in}
 use Rattle.sheet.proofs.Fitting.{call_fits_lem}
 use Rattle.pen.specs.Words.{bytes}

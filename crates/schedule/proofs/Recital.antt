@@ -9,9 +9,7 @@ use borrow.Author.Tests.{eq-eqb, ne_eqb}
 use Rattle.pen.specs.Written.{Puts}
 use Rattle.pen.proofs.Putting.{puts_none, puts_then}
 use Rattle.sheet.specs.declared.Field.{Field}
-use Rattle.sheet.specs.declared.Read.{Read}
-use Rattle.sheet.specs.declared.Read.TheVariants.{Whole, Refused}
-use Rattle.sheet.specs.Fields.{read_field}
+use Rattle.sheet.specs.Fields.{Read, Whole, Refused, read_field}
 use Rattle.sheet.proofs.Fielding.{whole_next}
 use Rattle.schedule.specs.Writing.{Text, field_text, line_first, read_text, text_from, text_of}
 use Rattle.schedule.specs.Promises.{Recites}

@@ -11,9 +11,7 @@ use borrow.Author.Tests.{eqb-true, eq-eqb, ne_eqb, le-leb, lt-leb, le-ltb}
 use Rattle.mark.proofs.Choices.{not_both}
 use Rattle.sheet.specs.declared.Field.{Field}
 use Rattle.sheet.specs.declared.Field.TheVariants.{Opening, Calling, Turning}
-use Rattle.sheet.specs.declared.Read.{Read}
-use Rattle.sheet.specs.declared.Read.TheVariants.{Whole, Refused}
-use Rattle.sheet.specs.Fields.{read_field, Bytes}
+use Rattle.sheet.specs.Fields.{Read, Whole, Refused, read_field, Bytes}
 use Rattle.sheet.proofs.Fielding.{whole_next}
 use Rattle.pen.specs.Words.{bytes}
 use Rattle.schedule.specs.Tokens.{span, word_at}

@@ -13,9 +13,7 @@ use Rattle.pen.specs.Decimal.{decimal}
 use Rattle.pen.proofs.Decimal.{decimal_long, decimal_short}
 use Rattle.engine.specs.declared.Plan.{Plan}
 use Rattle.sheet.specs.declared.Call.{Call}
-use Rattle.sheet.specs.declared.Read.{Read}
-use Rattle.sheet.specs.declared.Read.TheVariants.{Whole, Refused}
-use Rattle.sheet.specs.Fields.{byte_at, Bytes, plan_at, call_at, span_at, read_field}
+use Rattle.sheet.specs.Fields.{Read, Whole, Refused, byte_at, Bytes, plan_at, call_at, span_at, read_field}
 use Rattle.sheet.specs.Play.{turns_in}
 use Rattle.sheet.proofs.Fielding.{Reading, opening_read, calling_read, turning_read, not_read, reading, whole_next}
 use Rattle.sheet.proofs.Fitting.{CallFits, fits_short, fits_four, fits_eight}

@@ -1,8 +1,7 @@
 -- A sheet that is well formed.
 use Rattle.std.specs.Prelude.{ℕ, ◌≡◌, List, length}
 use Rattle.sheet.specs.declared.Field.{Field}
-use Rattle.sheet.specs.declared.Read.TheVariants.{Whole}
-use Rattle.sheet.specs.Fields.{read_field}
+use Rattle.sheet.specs.Fields.{Whole, read_field}
 
 -- §8.5: field after field is whole from a place on, to the end of the sheet
 pub data WholeFrom (sheet : List ℕ) : ℕ → Type 0 where

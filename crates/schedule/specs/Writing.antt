@@ -5,9 +5,7 @@ use Rattle.engine.specs.declared.Plan.{Plan}
 use Rattle.sheet.specs.declared.Call.{Call}
 use Rattle.sheet.specs.declared.Field.{Field}
 use Rattle.sheet.specs.declared.Field.TheVariants.{Opening, Calling, Turning}
-use Rattle.sheet.specs.declared.Read.{Read}
-use Rattle.sheet.specs.declared.Read.TheVariants.{Whole, Refused}
-use Rattle.sheet.specs.Fields.{read_field}
+use Rattle.sheet.specs.Fields.{Read, Whole, Refused, read_field}
 use Rattle.sheet.specs.Play.{turns_in}
 use Rattle.pen.specs.Words.{bytes}
 use Rattle.pen.specs.Decimal.{decimal}

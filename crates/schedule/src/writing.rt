@@ -2,13 +2,13 @@
 ghost use Rattle.std.specs.Prelude.{◌≡◌, drop};
 ghost use Rattle.pen.specs.Written.{Puts};
 ghost use Rattle.sheet.specs.Fields.{read_field};
-ghost use Rattle.sheet.specs.declared.Read.TheVariants.{Whole};
+ghost use Rattle.sheet.specs.Fields.{Whole};
 ghost use Rattle.schedule.specs.Writing.{things, floor_text, ticket_text, verb_text, call_text, same_as, run_text, turns_text, field_text};
 ghost use Rattle.schedule.specs.Promises.{Recites};
 
 use crate::Recited;
 use engine::Plan;
-use sheet::{Call, Field, Read, reading};
+use sheet::{Call, Field, reading};
 use turn::record;
 
 // The highest ticket that four bytes hold.
@@ -134,15 +134,15 @@ pub fn lines(sheet: &[u8], out: &mut [u8]) -> Recited
     let mut written = 0;
     let mut at = 0;
     loop {
-        let read = reading::read(sheet, at);
-        let Read::Whole(field, next) = read else {
+        let Some(found) = reading::read(sheet, at) else {
             return Recited {
                 written,
-                at: reading::place(read),
+                at,
                 whole: false,
             };
         };
-        written = line(sheet, at, field, next, out, written);
+        let next = found.next;
+        written = line(sheet, at, found.field, next, out, written);
         if next == sheet.len() {
             return Recited {
                 written,

@@ -7,9 +7,7 @@ use native.Mathlib.Omega.{arith}
 use lib.ListN.{length, get_or}
 use borrow.Author.Tests.{le-ltb, ne_eqb}
 use Rattle.sheet.specs.declared.Field.{Field}
-use Rattle.sheet.specs.declared.Read.{Read}
-use Rattle.sheet.specs.declared.Read.TheVariants.{Whole}
-use Rattle.sheet.specs.Fields.{read_field, Bytes}
+use Rattle.sheet.specs.Fields.{Read, Whole, read_field, Bytes}
 use Rattle.schedule.specs.WellFormed.{the_last, and_more, WellFormed}
 use Rattle.schedule.specs.Writing.{text_of}
 use Rattle.schedule.specs.Promises.{is_text}

@@ -12,8 +12,7 @@ use Rattle.engine.specs.declared.Plan.{Plan}
 use Rattle.engine.specs.Refusals.{wrong_sizes, open_number}
 use Rattle.engine.specs.Calls.{Opened, planned, no_turns, open_call}
 use Rattle.sheet.specs.declared.Field.TheVariants.{Opening}
-use Rattle.sheet.specs.declared.Read.{Read}
-use Rattle.sheet.specs.declared.Read.TheVariants.{Whole}
+use Rattle.sheet.specs.Fields.{Read, Whole}
 use Rattle.sheet.specs.Play.{Desk, shut_desk, open_field, opened}
 use Rattle.sheet.specs.Listing.{Told, Ending, after_field, one_field, fields_from, played, words_asked, own_play, listing}
 use Rattle.sheet.proofs.Fielding.{Reading, opening_read, calling_read, turning_read, not_read, reading}

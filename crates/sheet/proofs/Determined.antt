@@ -1,9 +1,13 @@
 -- §12.2: two outcomes that meet the promise of a sheet are equal. Each is over the record that the function's contract cites. Assumes nothing.
 use Prim.Native.Nat.{ℕ}
-use mathlib.Core.Path.{◌≡◌}
+use mathlib.Core.Path.{◌≡◌, refl, sym, ap, ◌∙◌}
 use mathlib.Core.List.{List}
+use native.Mathlib.Omega.{arith}
+use Rattle.std.specs.Prelude.{Option, Some, None}
 use Rattle.mark.proofs.OneAnswer.{one_answer}
+use Rattle.sheet.specs.declared.Found.{Found}
 use Rattle.sheet.specs.declared.Played.{Played}
+use Rattle.sheet.specs.Fields.{Whole, Refused, read_of, read_field}
 use Rattle.sheet.specs.Written.{Wrote}
 use Rattle.sheet.specs.Promises.{SheetPlayed, SheetListed, BoardAsked, ListingWritten}
 
@@ -49,3 +53,14 @@ words_determined sheet r t p q = one_answer p.whole q.whole
 pub listing_determined :
     (sheet out later other : List ℕ) (r t : ℕ) → ListingWritten sheet out later r → ListingWritten sheet out other t → (later ≡ other) × (r ≡ t)
 listing_determined sheet out later other r t p q = wrote_determined p.lines q.lines
+
+-- the field at a place: what was found, or none
+pub read_determined : (sheet : List ℕ) (at : ℕ) (r t : Option Found) → read_of at r ≡ read_field sheet at → read_of at t ≡ read_field sheet at → r ≡ t
+read_determined sheet at None None p q = refl
+read_determined sheet at None (Some found) p q = let e : Refused at ≡ Whole found.field found.next = p ∙ sym q in absurd (let z : ◌≡◌ {A = ℕ} 0 1 = cc in omega arith)
+read_determined sheet at (Some found) None p q = let e : Whole found.field found.next ≡ Refused at = p ∙ sym q in absurd (let z : ◌≡◌ {A = ℕ} 0 1 = cc in omega arith)
+read_determined sheet at (Some found) (Some other) p q =
+    let e : Whole found.field found.next ≡ Whole other.field other.next = p ∙ sym q in
+    let f : found.field ≡ other.field = cc in
+    let n : found.next ≡ other.next = cc in
+    ap Some (λ i. record { field = f i; next = n i })

@@ -21,8 +21,7 @@ use Rattle.sheet.specs.declared.Call.{Call}
 use Rattle.sheet.specs.declared.Played.{Played}
 use Rattle.sheet.specs.declared.Span.{Span}
 use Rattle.sheet.specs.declared.Field.TheVariants.{Opening, Calling, Turning}
-use Rattle.sheet.specs.declared.Read.TheVariants.{Whole, Refused}
-use Rattle.sheet.specs.Fields.{read_field}
+use Rattle.sheet.specs.Fields.{Whole, Refused, read_field}
 use Rattle.sheet.specs.Play.{Desk, desk_of, opened_desk, shut_floor, shut_desk, Outcome, outcome, seat_of, record_of, asked, call_field, open_field}
 use Rattle.sheet.specs.Play.{turn_at_desk, and_then, turns_done}
 use Rattle.sheet.specs.Listing.{Told, told, Ending, listed_first, told_refusal, refused, told_totals, over, after_field, one_field, fields_from}

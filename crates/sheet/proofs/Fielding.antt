@@ -1,7 +1,7 @@
 -- What the reading of a field says of it, of its place and of the place after it. Assumes nothing.
 use Prim.Native.Nat.{ℕ, ◌+◌, ◌≤◌}
 use mathlib.Core.Bool.{true, not, and-eq-true_iff}
-use mathlib.Core.Path.{◌≡◌}
+use mathlib.Core.Path.{◌≡◌, sym, ap, ◌∙◌}
 use mathlib.Core.List.{List}
 use native.Mathlib.Omega.{arith}
 use lib.ListN.{length}
@@ -12,12 +12,29 @@ use Rattle.engine.specs.declared.Plan.{Plan}
 use Rattle.sheet.specs.declared.Call.{Call}
 use Rattle.sheet.specs.declared.Span.{Span}
 use Rattle.sheet.specs.declared.Field.{Field}
+use Rattle.sheet.specs.declared.Found.{Found}
 use Rattle.sheet.specs.declared.Field.TheVariants.{Opening, Calling, Turning}
-use Rattle.sheet.specs.declared.Read.{Read}
-use Rattle.sheet.specs.declared.Read.TheVariants.{Whole, Refused}
-use Rattle.sheet.specs.Fields.{byte_at, length_at, is_whole, plan_at, call_at, span_at, opening_at, calling_at, turning_at, field_of, read_field}
+use Rattle.std.specs.Prelude.{Option, Some, None}
+use Rattle.sheet.specs.Fields.{Read, Whole, Refused, read_of, byte_at, length_at, is_whole, plan_at, call_at, span_at, opening_at, calling_at, turning_at, field_of, read_field}
 use Rattle.sheet.proofs.Keyed.{by_key}
 use Rattle.sheet.proofs.Fitting.{CallFits, call_fits_lem, fits_long}
+
+-- ---- what the code hands back of a reading
+
+-- what was found is what stands there
+pub found_here :
+    (sheet : List ℕ) (at : ℕ) {r : Option Found} {x : Found} {f : Field}
+    → read_of at r ≡ read_field sheet at
+    → r ≡ Some x
+    → x.field ≡ f
+    → read_field sheet at ≡ Whole f x.next
+found_here sheet at {x = x} read is field = sym read ∙ ap (read_of at) is ∙ ap (λ (f : Field). Whole f x.next) field
+
+-- where nothing was found nothing can be read
+pub none_here : (sheet : List ℕ) (at : ℕ) {r : Option Found} → read_of at r ≡ read_field sheet at → r ≡ None → read_field sheet at ≡ Refused at
+none_here sheet at read is = sym read ∙ ap (read_of at) is
+
+-- ---- each way that a reading can come out
 
 -- each way that a reading at a place can come out
 pub data Reading (sheet : List ℕ) (at : ℕ) : Read → Type 0 where

@@ -8,9 +8,7 @@ use lib.Dec.{eqb}
 use lib.ListN.{length}
 use borrow.Author.Tests.{eqb-true, le-leb, lt-leb}
 use Rattle.mark.proofs.Choices.{by_cases, not_both}
-use Rattle.sheet.specs.declared.Read.{Read}
-use Rattle.sheet.specs.declared.Read.TheVariants.{Refused}
-use Rattle.sheet.specs.Fields.{byte_at, length_at, is_whole, call_fits, field_of, read_field}
+use Rattle.sheet.specs.Fields.{Read, Refused, byte_at, length_at, is_whole, call_fits, field_of, read_field}
 
 -- ---- a call's length
 

@@ -15,9 +15,7 @@ use Rattle.engine.specs.declared.Totals.{Totals}
 use Rattle.engine.specs.Calls.{turn_call}
 use Rattle.sheet.specs.declared.Field.{Field}
 use Rattle.sheet.specs.declared.Field.TheVariants.{Opening, Calling, Turning}
-use Rattle.sheet.specs.declared.Read.{Read}
-use Rattle.sheet.specs.declared.Read.TheVariants.{Whole, Refused}
-use Rattle.sheet.specs.Fields.{read_field}
+use Rattle.sheet.specs.Fields.{Read, Whole, Refused, read_field}
 use Rattle.sheet.specs.Line.{end_line, totals_line, refusal_line}
 use Rattle.sheet.specs.Play.{Desk, Outcome, seat_of, record_of, open_field, call_field, ended_line, turn_listed, turn_at_desk, turns_done, turns_in, field_done}
 use Rattle.sheet.specs.Listing.{Ending, one_field, fields_from, played, words_asked, own_play, listing}

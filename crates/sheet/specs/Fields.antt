@@ -1,13 +1,12 @@
 -- The fields of a sheet.
-use Rattle.std.specs.Prelude.{ℕ, zero, suc, ◌+◌, ◌*◌, ◌-◌, ◌≤◌, ◌<◌, Bool, false, cond, ◌&&◌, ◌||◌, not, List, length, get_or, eqb, leb}
+use Rattle.std.specs.Prelude.{ℕ, zero, suc, ◌+◌, ◌*◌, ◌-◌, ◌≤◌, ◌<◌, Bool, false, cond, ◌&&◌, ◌||◌, not, Option, Some, None, List, length, get_or, eqb, leb}
 use Rattle.turn.specs.Worker.{look_kind, insert_kind, remove_kind}
 use Rattle.engine.specs.declared.Plan.{Plan}
 use Rattle.sheet.specs.declared.Call.{Call}
 use Rattle.sheet.specs.declared.Span.{Span}
 use Rattle.sheet.specs.declared.Field.{Field}
+use Rattle.sheet.specs.declared.Found.{Found}
 use Rattle.sheet.specs.declared.Field.TheVariants.{Opening, Calling, Turning}
-use Rattle.sheet.specs.declared.Read.{Read}
-use Rattle.sheet.specs.declared.Read.TheVariants.{Whole, Refused}
 
 -- the byte at a place
 abbrev pub byte_at : List ℕ → ℕ → ℕ
@@ -64,6 +63,16 @@ abbrev pub span_at : ℕ → ℕ → Span
 span_at at long = record { start = at + 3; end = at + 3 + long }
 
 -- ---- a field whole with the place after it, or refused with its own
+
+-- §8.5, §14.6: a field that was read, with the place after it, or the place of one that cannot be
+pub data Read : Type 0 where
+  Whole : Field → ℕ → Read
+  Refused : ℕ → Read
+
+-- what the code hands back of a reading at a place: the field that it found, or none
+abbrev pub read_of : ℕ → Option Found → Read
+read_of at (Some found) = Whole found.field found.next
+read_of at None = Refused at
 
 -- a field of this length where it is right, and else the refusal
 abbrev pub whole_if : Bool → Field → ℕ → ℕ → Read

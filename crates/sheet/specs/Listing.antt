@@ -2,9 +2,7 @@
 use Rattle.std.specs.Prelude.{ℕ, zero, suc, ◌*◌, cond, List, [], ◌++◌, length, replicate, eqb, leb, ltb}
 use Rattle.turn.specs.Turn.{After, after}
 use Rattle.sheet.specs.declared.Field.TheVariants.{Opening, Calling, Turning}
-use Rattle.sheet.specs.declared.Read.{Read}
-use Rattle.sheet.specs.declared.Read.TheVariants.{Whole, Refused}
-use Rattle.sheet.specs.Fields.{read_field}
+use Rattle.sheet.specs.Fields.{Read, Whole, Refused, read_field}
 use Rattle.sheet.specs.Line.{totals_line, refusal_line}
 use Rattle.sheet.specs.Play.{Desk, Outcome, shut_desk, field_done}
 

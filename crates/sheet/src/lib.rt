@@ -47,11 +47,11 @@ pub enum Field {
     Turning(Span),
 }
 
-// §8.5, §14.6: a field that was read, with the place after it, or the place of one that cannot be.
+// §8.5: a field that was read, and the place after it.
 #[derive(Clone, Copy)]
-pub enum Read {
-    Whole(Field, usize),
-    Refused(usize),
+pub struct Found {
+    pub field: Field,
+    pub next: usize,
 }
 
 // Where a sheet leaves the desk: the records and the floor from which it can go on, those of a shut desk where it was refused; how long
@@ -74,13 +74,17 @@ struct Took {
 }
 
 // §2.2: how many words of a board the sheet's floor asks for.
+#[tactic(auto, using(crate::proofs::Fielding::first_field), unfolding(crate::specs::Listing::words_asked))]
 pub fn words(sheet: &[u8]) -> usize
     ensures { BoardAsked sheet.now result }
 {
-    let Read::Whole(field, _) = reading::read(sheet, 0) else {
-        return 0;
-    };
-    let Field::Opening(plan) = field else {
+    let Some(
+        Found {
+            field: Field::Opening(plan),
+            ..
+        },
+    ) = reading::read(sheet, 0)
+    else {
         return 0;
     };
     if plan.buckets <= 256 {
@@ -143,12 +147,11 @@ fn fields(sheet: &[u8], board: &mut [u64], out: &mut [u8]) -> Played
     ensures { Leaves (fields_from (length sheet.now + 1) sheet.now 0 (after board.old shut_desk))
         out.old board.new out.new result }
 {
-    let read = reading::read(sheet, 0);
-    let Read::Whole(field, next) = read else {
-        return refused(out, 0, refusal::MALFORMED, reading::place(read));
+    let Some(found) = reading::read(sheet, 0) else {
+        return refused(out, 0, refusal::MALFORMED, 0);
     };
     // never: the reading refuses any other first field
-    let Field::Opening(plan) = field else {
+    let Field::Opening(plan) = found.field else {
         return refused(out, 0, refusal::MALFORMED, 0);
     };
     let laid = engine::open_floor(board, shut(), plan.workers, plan);
@@ -156,7 +159,7 @@ fn fields(sheet: &[u8], board: &mut [u64], out: &mut [u8]) -> Played
         return refused(out, 0, laid.refusal, 0);
     }
     let floor = laid.floor;
-    later_fields(sheet, board, out, floor, next)
+    later_fields(sheet, board, out, floor, found.next)
 }
 
 // §14.6: the fields after the first, which ends at a place. The records stay here till the end: a start and a turn are given their worker's
@@ -217,12 +220,11 @@ fn later_fields(
             };
         }
         at = end;
-        let read = reading::read(sheet, at);
-        let Read::Whole(field, next) = read else {
-            return refused(out, written, refusal::MALFORMED, reading::place(read));
+        let Some(found) = reading::read(sheet, at) else {
+            return refused(out, written, refusal::MALFORMED, at);
         };
-        end = next;
-        match field {
+        end = found.next;
+        match found.field {
             // never: the reading refuses a later floor
             Field::Opening(_) => {
                 return refused(out, written, refusal::MALFORMED, at);
@@ -241,7 +243,7 @@ fn later_fields(
                 records[i] = left;
                 let spent = started.floor;
                 floor = spent;
-                turn = next;
+                turn = end;
                 continue;
             }
             Field::Turning(span) => {

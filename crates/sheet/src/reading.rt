@@ -1,8 +1,8 @@
 // The fields of a sheet: tag, length, value.
 ghost use Rattle.std.specs.Prelude.{◌≡◌, true, ◌+◌, ◌≤◌, ◌<◌, ◌^◌, length};
-ghost use Rattle.sheet.specs.Fields.{number_at, call_fits, ticket_at, opening_at, calling_at, turning_at, read_field, place_in, Value};
+ghost use Rattle.sheet.specs.Fields.{number_at, call_fits, ticket_at, opening_at, calling_at, turning_at, read_of, read_field, Value};
 
-use crate::{Call, Field, Read, Span};
+use crate::{Call, Field, Found, Span};
 use engine::Plan;
 use turn::record;
 
@@ -30,22 +30,23 @@ fn number(sheet: &[u8], at: usize, bytes: usize) -> u64
 }
 
 // §8.2: a floor.
-fn opening(sheet: &[u8], at: usize, length: usize) -> Read
+#[tactic(auto, unfolding(crate::specs::Fields::opening_at))]
+fn opening(sheet: &[u8], at: usize, length: usize) -> Option<Found>
     requires { Value sheet.now at length }
-    ensures { result ≡ opening_at sheet.now at length }
+    ensures { read_of at result ≡ opening_at sheet.now at length }
 {
-    if at != 0 {
-        return Read::Refused(at);
-    }
-    if length != 7 {
-        return Read::Refused(at);
+    if at != 0 || length != 7 {
+        return None;
     }
     let plan = Plan {
         workers: sheet[at + 3] as usize,
         buckets: number(sheet, at + 4, 2) as usize,
         version: number(sheet, at + 6, 4) as u32,
     };
-    Read::Whole(Field::Opening(plan), at + 10)
+    Some(Found {
+        field: Field::Opening(plan),
+        next: at + 10,
+    })
 }
 
 // §8.3: an insert has its ticket behind the lot, in four bytes or in eight.
@@ -72,19 +73,17 @@ fn ticket(sheet: &[u8], at: usize, kind: u8, length: usize) -> u64
 }
 
 // §8.3: a call.
-fn calling(sheet: &[u8], at: usize, length: usize) -> Read
+#[tactic(auto, using(crate::proofs::Fitting::short_fits_not), unfolding(crate::specs::Fields::calling_at))]
+fn calling(sheet: &[u8], at: usize, length: usize) -> Option<Found>
     requires { Value sheet.now at length }
-    ensures { result ≡ calling_at sheet.now at length }
+    ensures { read_of at result ≡ calling_at sheet.now at length }
 {
-    if at == 0 {
-        return Read::Refused(at);
-    }
-    if length < 10 {
-        return Read::Refused(at);
+    if at == 0 || length < 10 {
+        return None;
     }
     let kind = sheet[at + 4];
     if !call_fits(kind, length) {
-        return Read::Refused(at);
+        return None;
     }
     let call = Call {
         lot: number(sheet, at + 5, 8),
@@ -92,53 +91,45 @@ fn calling(sheet: &[u8], at: usize, length: usize) -> Read
         worker: sheet[at + 3],
         kind,
     };
-    Read::Whole(Field::Calling(call), at + 3 + length)
+    Some(Found {
+        field: Field::Calling(call),
+        next: at + 3 + length,
+    })
 }
 
 // §8.4: turns.
-fn turning(sheet: &[u8], at: usize, length: usize) -> Read
+#[tactic(auto, unfolding(crate::specs::Fields::turning_at))]
+fn turning(sheet: &[u8], at: usize, length: usize) -> Option<Found>
     requires { Value sheet.now at length }
-    ensures { result ≡ turning_at at length }
+    ensures { read_of at result ≡ turning_at at length }
 {
-    if at == 0 {
-        return Read::Refused(at);
-    }
-    if length == 0 {
-        return Read::Refused(at);
+    if at == 0 || length == 0 {
+        return None;
     }
     let start = at + 3;
     let end = start + length;
-    Read::Whole(Field::Turning(Span { start, end }), end)
+    Some(Found {
+        field: Field::Turning(Span { start, end }),
+        next: end,
+    })
 }
 
-// §8.5: the field whose tag stands at a place.
-pub fn read(sheet: &[u8], at: usize) -> Read
-    ensures { result ≡ read_field sheet.now at }
+// §8.5, §14.6: the field whose tag stands at a place; none where none can be read.
+#[tactic(auto, using(crate::proofs::Fitting::read_short, crate::proofs::Fitting::read_cut, crate::proofs::Fitting::read_whole), unfolding(crate::specs::Fields::field_of))]
+pub fn read(sheet: &[u8], at: usize) -> Option<Found>
+    ensures { read_of at result ≡ read_field sheet.now at }
 {
-    if sheet.len() < 3 {
-        return Read::Refused(at);
-    }
-    if sheet.len() - 3 < at {
-        return Read::Refused(at);
+    if sheet.len() < 3 || sheet.len() - 3 < at {
+        return None;
     }
     let length = number(sheet, at + 1, 2) as usize;
     if sheet.len() - 3 - at < length {
-        return Read::Refused(at);
+        return None;
     }
     match sheet[at] {
         FLOOR => opening(sheet, at, length),
         CALL => calling(sheet, at, length),
         TURNS => turning(sheet, at, length),
-        _ => Read::Refused(at),
-    }
-}
-
-// The place that a reading comes with.
-pub fn place(read: Read) -> usize
-    ensures { result ≡ place_in read }
-{
-    match read {
-        Read::Whole(_, next) => next,
-        Read::Refused(at) => at,
+        _ => None,
     }
 }

@@ -13,9 +13,7 @@ use Rattle.engine.specs.declared.Plan.{Plan}
 use Rattle.engine.specs.Calls.{lay_call, try_call, record_in}
 use Rattle.sheet.specs.declared.Call.{Call}
 use Rattle.sheet.specs.declared.Field.TheVariants.{Opening, Calling, Turning}
-use Rattle.sheet.specs.declared.Read.{Read}
-use Rattle.sheet.specs.declared.Read.TheVariants.{Whole, Refused}
-use Rattle.sheet.specs.Fields.{read_field}
+use Rattle.sheet.specs.Fields.{Read, Whole, Refused, read_field}
 use Rattle.sheet.specs.Play.{asked}
 use Rattle.sheet.proofs.Fielding.{whole_next, whole_turns}
 use Rattle.view.specs.declared.Cursor.{Cursor}

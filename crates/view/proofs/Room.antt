@@ -19,9 +19,7 @@ use Rattle.engine.specs.Calls.{record_in, lay_call, try_call, count_call}
 use Rattle.engine.proofs.Sleeping.{after_long}
 use Rattle.sheet.specs.declared.Call.{Call}
 use Rattle.sheet.specs.declared.Field.TheVariants.{Opening, Calling, Turning}
-use Rattle.sheet.specs.declared.Read.{Read}
-use Rattle.sheet.specs.declared.Read.TheVariants.{Whole, Refused}
-use Rattle.sheet.specs.Fields.{read_field}
+use Rattle.sheet.specs.Fields.{Read, Whole, Refused, read_field}
 use Rattle.sheet.specs.Play.{asked}
 use Rattle.view.specs.declared.Acted.{Acted}
 use Rattle.view.specs.declared.Stop.{Stop}

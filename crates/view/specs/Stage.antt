@@ -16,9 +16,7 @@ use Rattle.engine.specs.Calls.{lay_call, try_call, changes, tallied, capped_tota
 use Rattle.sheet.specs.declared.Call.{Call}
 use Rattle.sheet.specs.declared.Span.{Span}
 use Rattle.sheet.specs.declared.Field.TheVariants.{Opening, Calling, Turning}
-use Rattle.sheet.specs.declared.Read.{Read}
-use Rattle.sheet.specs.declared.Read.TheVariants.{Whole, Refused}
-use Rattle.sheet.specs.Fields.{read_field}
+use Rattle.sheet.specs.Fields.{Read, Whole, Refused, read_field}
 use Rattle.sheet.specs.Play.{shut_floor, seat_at, asked}
 use Rattle.view.specs.declared.Change.{Change}
 use Rattle.view.specs.declared.Acted.{Acted}

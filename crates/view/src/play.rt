@@ -1,13 +1,13 @@
 // The next scene of a sheet: a function for each definition of what it comes to.
 ghost use Rattle.std.specs.Prelude.{◌≤◌, ◌<◌, ◌≡◌, [], length, get_or};
 ghost use Rattle.turn.specs.Turn.{after};
-ghost use Rattle.sheet.specs.declared.Read.TheVariants.{Whole};
+ghost use Rattle.sheet.specs.Fields.{Whole};
 ghost use Rattle.sheet.specs.Fields.{read_field};
 ghost use Rattle.view.specs.Stage.{turned, turn_tried, turn_scene, reading, opened_by, begun_by, open_scene, call_scene, at_end, field_scene, next_scene};
 
 use crate::{Acted, Cursor, Scene, Stage, keep};
 use engine::{Laid, Plan, Seat, Started, tally};
-use sheet::{Call, Field, LIMIT, Read, reading};
+use sheet::{Call, Field, LIMIT, reading};
 use turn::{Report, Tried, Worker, record, refusal, sleep};
 
 // ---- a turn
@@ -208,23 +208,18 @@ fn whole(sheet: &[u8], board: &mut [u64], stage: Stage, field: Field, next: usiz
 }
 
 // §8.5: the field where the one before it ends.
+#[tactic(auto, using(sheet::proofs::Fielding::found_here, sheet::proofs::Fielding::none_here))]
 fn field(sheet: &[u8], board: &mut [u64], stage: Stage) -> Stage
     requires { stage.cursor.field ≤ 16384 }
     ensures { after board.new result ≡
         field_scene sheet.now (after board.old stage) (read_field sheet.now stage.cursor.end) }
 {
     let cursor = stage.cursor;
-    let read = reading::read(sheet, cursor.end);
-    match read {
-        Read::Refused(place) => keep::stopped(
-            in_field(stage, place, place),
-            refusal::MALFORMED,
-            place,
-            0,
-            0,
-        ),
-        Read::Whole(field, next) => whole(sheet, board, stage, field, next),
-    }
+    let at = cursor.end;
+    let Some(found) = reading::read(sheet, at) else {
+        return keep::stopped(in_field(stage, at, at), refusal::MALFORMED, at, 0, 0);
+    };
+    whole(sheet, board, stage, found.field, found.next)
 }
 
 // The end of the sheet, which is not before its first field.

@@ -12,13 +12,12 @@ use Rattle.engine.specs.Calls.{blank, record_in}
 use Rattle.engine.specs.Room.{Few}
 use Rattle.engine.proofs.Few.{few_le}
 use Rattle.sheet.specs.declared.Field.{Field}
-use Rattle.sheet.specs.declared.Read.TheVariants.{Whole, Refused}
-use Rattle.sheet.specs.Fields.{read_field, place_in}
+use Rattle.sheet.specs.Fields.{Whole, Refused, read_field}
 use Rattle.sheet.specs.Play.{desk_of, opened_desk, outcome, seat_of, record_of, asked, turn_at_desk}
 use Rattle.sheet.specs.Listing.{after_field, fields_from}
 use Rattle.sheet.specs.Room.{due}
 use Rattle.sheet.specs.Promises.{Does, put_back}
-use Rattle.sheet.proofs.Fielding.{whole_next, whole_turns, refused_place}
+use Rattle.sheet.proofs.Fielding.{found_here, none_here, whole_next, whole_turns}
 use Rattle.sheet.proofs.Seats.{asked_known}
 use Rattle.sheet.proofs.OneTurn.{busy_some, no_record}
 use Rattle.engine.proofs.Firsts.{firsts_none, firsts_next}
@@ -195,32 +194,29 @@ returns_2 c =
 
 -- ---- a field that is refused
 
--- the place that it comes with
-refused_at :
-    (p : tie.After-place invariant_loop2 decreases_loop2 invariant_loop decreases_loop)
-    → read_field p.args.sheet.now p.loop-turn.end ≡ Refused p.place.result
-refused_at p =
-    let told = p.in_default.is in
-    sym p.read-read.ensures ∙ told ∙ ap Refused (sym (p.place.ensures ∙ ap place_in told))
+-- it was not read
+not_read :
+    (p : tie.In_default invariant_loop2 decreases_loop2 invariant_loop decreases_loop)
+    → read_field p.args.sheet.now p.loop-turn.end ≡ Refused p.loop-turn.end
+not_read p = none_here _ _ p.read.ensures p.in_default.is
 
 refused_requires_2 : tie.Need-refused-requires-in_default invariant_loop2 decreases_loop2 invariant_loop decreases_loop
 refused_requires_2 c κs =
-    let fits = last_fits c.before.before.before.before.before.before in
-    let same = refused_place _ _ _ (refused_at c) in
-    (omega (arith, same, fits.0), omega (arith, fits.1))
+    let fits = last_fits c.before.before.before.before.before in
+    (fits.0, omega (arith, fits.1))
 
 returns_3 : tie.Need-returns-in_default invariant_loop2 decreases_loop2 invariant_loop decreases_loop
 returns_3 c =
-    malformed _ _ _ c.loop-turn.invariant.0 c.if-turn-end.false c.if-end-sheet.false _ (refused_at c.before.before.before) c.refused-in_default.ensures
+    malformed _ _ _ c.loop-turn.invariant.0 c.if-turn-end.false c.if-end-sheet.false _ (not_read c.before.before.before.before) c.refused-in_default.ensures
 
 -- ---- a field that is read whole
 
 -- it was read here
 read_at :
-    (k : tie.In-Whole invariant_loop2 decreases_loop2 invariant_loop decreases_loop) (f : Field)
-    → k.in-Whole.field ≡ f
-    → read_field k.args.sheet.now k.loop-turn.end ≡ Whole f k.in-Whole.next
-read_at k f is = sym k.read-read.ensures ∙ k.in-Whole.is ∙ ap (λ (x : Field). Whole x k.in-Whole.next) is
+    (k : tie.In-Some invariant_loop2 decreases_loop2 invariant_loop decreases_loop) (f : Field)
+    → k.in-Some.found.field ≡ f
+    → read_field k.args.sheet.now k.loop-turn.end ≡ Whole f k.in-Some.found.next
+read_at k f is = found_here _ _ k.read.ensures k.in-Some.is is
 
 -- it is no floor
 never : tie.In-Opening invariant_loop2 decreases_loop2 invariant_loop decreases_loop → ⊥
@@ -319,7 +315,7 @@ later_fields_spec =
     (λ c. c.loop-turn.invariant.2)
     (λ c. c.totals-after.auto.out ∙ c.loop-turn.invariant.1)
     returns_2
-    (λ c κs. search rules) (λ c. search rules) (λ c. search rules) (λ c κs. search rules)
+    (λ c κs. search rules) (λ c. search rules) (λ c. search rules)
     refused_requires_2
     (λ c. c.loop-turn.invariant.2)
     (λ c. c.refused-in_default.auto.out ∙ c.loop-turn.invariant.1)

@@ -5,7 +5,7 @@ use mathlib.Core.Path.{ap, ◌∙◌}
 use native.Mathlib.Omega.{arith}
 use lib.ListN.{length}
 use Rattle.sheet.specs.declared.Field.{Field}
-use Rattle.sheet.specs.declared.Read.TheVariants.{Whole}
+use Rattle.sheet.specs.Fields.{Whole}
 use Rattle.sheet.proofs.Fielding.{whole_next, whole_turns}
 use Rattle.schedule.proofs.writing.line.Statement.{statement}
 use Rattle.schedule.proofs.writing.line.Tie as tie
