@@ -1,5 +1,6 @@
 // The mark word of a bucket: one 64-bit word that holds the version and the three slots' marks.
-// A slot is 0, 1 or 2. Any other number names no slot: its mark reads as 0, and setting it changes nothing.
+// A slot is 0, 1 or 2. Any other number names no slot: its mark reads as 0, and setting it changes nothing. Marks and slots are numbers and
+// no enums, since a lent word and a lent record hold whatever byte stands there, and C reads marks by `mark_of`.
 #![tactic(auto)]
 
 ghost use Rattle.std.specs.Prelude.{◌≡◌, ◌+◌, ◌*◌, ◌≤◌};

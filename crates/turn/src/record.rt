@@ -1,4 +1,5 @@
-// The records of idle and started workers, and whether a record is broken.
+// The records of idle and started workers, and whether a record is broken. Kinds are numbers and no enum, since any byte may stand in a record
+// that C lends (`Worker`).
 ghost use Rattle.std.specs.Prelude.{◌≡◌, ◌||◌, eqb};
 ghost use Rattle.turn.specs.Worker.{idle, started, look_for, insert_of, remove_of, is_idle, within, held_fits, fits, sound};
 
