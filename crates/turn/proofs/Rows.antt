@@ -1,8 +1,7 @@
 -- A turn at a known place is that place's row of the table. Assumes nothing.
-use Prim.Native.Nat.{ℕ, zero, suc, ◌≤◌}
+use Prim.Native.Nat.{ℕ, ◌≤◌}
 use mathlib.Core.Path.{◌≡◌, ap, sym, ◌∙◌}
 use mathlib.Core.List.{List}
-use native.Mathlib.Omega.{arith}
 use lib.ListN.{get_or, get_or-eq_default}
 use Rattle.turn.specs.declared.Worker.{Worker}
 use Rattle.turn.specs.Places.{Step, rows, stays, does, turn}
@@ -17,12 +16,3 @@ at_row {b} {w} p ready is h = h ∙ sym (ap (λ (k : ℕ). does (get_or rows k s
 pub past_rows : {b : List ℕ} {w : Worker} → Ready b w → 14 ≤ w.place → {x : Step} → x ≡ does stays b w → x ≡ turn b w
 unfolding turn
 past_rows ready past h = rw (get_or-eq_default rows stays past) h
-
--- a number that is none of those below n is at least n, as the last arm of a match finds it
-abbrev pub Passed : ℕ → ℕ → Type 0
-Passed zero p = Unit {0}
-Passed (suc n) p = Passed n p × (p ≡ n → ⊥)
-
-pub passed : (n p : ℕ) → Passed n p → n ≤ p
-passed zero p h = omega arith
-passed (suc n) p h = let below : n ≤ p = passed n p h.0 in let other : p ≡ n → ⊥ = h.1 in omega arith
