@@ -14,8 +14,8 @@ use Rattle.sheet.specs.Room.{longest}
 use Rattle.sheet.specs.Promises.{Leaves}
 use Rattle.sheet.specs.Written.{Wrote}
 use Rattle.sheet.proofs.Writing.{wrote_within}
-use Rattle.walks.specs.declared.Walked.{Walked}
-use Rattle.walks.specs.declared.Walked.TheVariants.{Refusal, Orders}
+use Rattle.walks.specs.Calls.{Walked}
+use Rattle.walks.specs.Calls.{Refusal, Orders}
 use Rattle.orders.specs.declared.Answer.{Answer}
 use Rattle.orders.specs.declared.Answer.TheVariants.{Listing, Refused, Counts}
 use Rattle.orders.specs.Answers.{orders_from, answer_of, answer_from, Answered, sheet_in, depth_in}

@@ -6,8 +6,8 @@ use Rattle.sheet.specs.Listing.{Ending, own_play}
 use Rattle.sheet.specs.Room.{longest}
 use Rattle.sheet.specs.Written.{Wrote}
 use Rattle.walks.specs.declared.Class.{Class}
-use Rattle.walks.specs.declared.Walked.{Walked}
-use Rattle.walks.specs.declared.Walked.TheVariants.{Refusal, Orders}
+use Rattle.walks.specs.Calls.{Walked}
+use Rattle.walks.specs.Calls.{Refusal, Orders}
 use Rattle.walks.specs.Calls.{records_of, orders_call}
 use Rattle.orders.specs.declared.Answer.{Answer}
 use Rattle.orders.specs.declared.Answer.TheVariants.{Listing, Refused, Counts}

@@ -15,8 +15,8 @@ use Rattle.engine.specs.Calls.{Started}
 use Rattle.engine.specs.declared.Totals.{Totals}
 use Rattle.engine.specs.Board.{bucket_at}
 use Rattle.engine.specs.Calls.{Opened, open_call, look_call, insert_call, remove_call, turn_call, tallied, no_turns, blank, record_in, seat_in, after_turn}
-use Rattle.walks.specs.declared.Walked.{Walked}
-use Rattle.walks.specs.declared.Walked.TheVariants.{Refusal, Orders}
+use Rattle.walks.specs.Calls.{Walked}
+use Rattle.walks.specs.Calls.{Refusal, Orders}
 use Rattle.walks.specs.Calls.{orders_call}
 
 -- ---- a trial: what is asked of the desk, and beside it what is said to come of it

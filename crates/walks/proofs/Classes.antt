@@ -20,7 +20,7 @@ use Rattle.engine.specs.Refusals.{wrong_sizes, any_record}
 use Rattle.engine.specs.Calls.{record_in}
 use Rattle.engine.proofs.Sizes.{both_fail, right_sizes, right_listed}
 use Rattle.walks.specs.declared.Class.{Class}
-use Rattle.walks.specs.declared.Walked.TheVariants.{Refusal}
+use Rattle.walks.specs.Calls.{Refusal}
 use Rattle.walks.specs.Walk.{seated, walks}
 use Rattle.walks.specs.Calls.{not_small, orders_number, orders_call, records_of, class_of}
 use Rattle.walks.proofs.Sitting.{Sitting, bucket_is_board}

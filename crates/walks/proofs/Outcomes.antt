@@ -15,8 +15,13 @@ use Rattle.engine.specs.Refusals.{wrong_sizes, any_record}
 use Rattle.engine.proofs.Sizes.{right_sizes, right_listed}
 use Rattle.walks.specs.declared.Class.{Class}
 use Rattle.walks.specs.declared.OrdersOutcome.{OrdersOutcome}
-use Rattle.walks.specs.declared.Walked.{Walked}
-use Rattle.walks.specs.declared.Walked.TheVariants.{Refusal, Orders}
+use Rattle.std.proofs.Common.{Result, Ok, Err}
+use Rattle.turn.specs.declared.refusal.Refusal.{Refusal as Why}
+use Rattle.turn.specs.Number.{number as number_of, result_number}
+use Rattle.turn.proofs.Refusing.{number_some}
+use Rattle.walks.specs.declared.Walks.{Walks}
+use Rattle.walks.specs.Calls.{Walked, walked_as}
+use Rattle.walks.specs.Calls.{Refusal, Orders}
 use Rattle.walks.specs.Walk.{seated, class_number, walks}
 use Rattle.walks.specs.Calls.{not_small, size_number, orders_number, orders_call, walked_number, records_of, class_of}
 use Rattle.walks.specs.Told.{orders_told}
@@ -41,15 +46,21 @@ module _ (board : List ℕ) (f : Floor) (c : Class) (depth : ℕ) where
   number = orders_number board f (records_of c) c.listed depth
 
   -- an answer that is a refusal
-  refused_by_lem : (n : ℕ) → n ≡ number → (n ≡ 0 → ⊥) → OrdersWalked board f c depth (Refusal n)
+  refused_by_lem : (why : Why) → number_of why ≡ number → OrdersWalked board f c depth (Err why)
   unfolding orders_call
-  refused_by_lem n is some = record { whole = rw (← is, ne_eqb n 0 some); number = is }
+  refused_by_lem why is = record { whole = rw (← is, ne_eqb (number_of why) 0 (number_some why)); number = is }
 
   -- for the sizes or the depth
-  pub refused_size : (n : ℕ) → n ≡ size_number board f c.listed depth → (n ≡ 0 → ⊥) → OrdersWalked board f c depth (Refusal n)
+  pub refused_size : (why : Why) → number_of why ≡ size_number board f c.listed depth → OrdersWalked board f c depth (Err why)
   unfolding orders_number
-  refused_size n is some = refused_by_lem n (is ∙ same (sym is)) some
+  refused_size why is = refused_by_lem why (is ∙ same (sym is))
     where
+      n : ℕ
+      n = number_of why
+
+      some : n ≡ 0 → ⊥
+      some = number_some why
+
       same : size_number board f c.listed depth ≡ n → size_number board f c.listed depth ≡ number
       same e =
           by_cases (λ (m : ℕ). (m ≡ n) → m ≡ number) (wrong_sizes f board c.listed) _ _ (λ wrong m-is. rw wrong)
@@ -102,11 +113,11 @@ module _ (board : List ℕ) (f : Floor) (c : Class) (depth : ℕ) where
         ) refl
 
     -- for a record or the bucket
-    pub refused_class : (n : ℕ) → n ≡ class_number board c.first second third → (n ≡ 0 → ⊥) → OrdersWalked board f c depth (Refusal n)
-    refused_class n is some = refused_by_lem n (is ∙ number_is) some
+    pub refused_class : (why : Why) → number_of why ≡ class_number board c.first second third → OrdersWalked board f c depth (Err why)
+    refused_class why is = refused_by_lem why (is ∙ number_is)
 
     -- and where nothing refuses it, all is walked
-    pub walked_all : class_number board c.first second third ≡ 0 → OrdersWalked board f c depth (Orders (walks depth board c.first second third 0))
+    pub walked_all : class_number board c.first second third ≡ 0 → OrdersWalked board f c depth (Ok (walks depth board c.first second third 0))
     unfolding orders_call
     walked_all none =
         let zero_is : number ≡ 0 = sym number_is ∙ none in
@@ -119,20 +130,24 @@ module _ (board : List ℕ) (f : Floor) (c : Class) (depth : ℕ) where
 -- ---- on the lent list
 
 -- the number of the answer is the one that crosses to C
+pub walked_told : (r : Result Walks Why) → walked_number (walked_as r) ≡ result_number r
+walked_told (Ok walks) = refl
+walked_told (Err why) = refl
+
 told_number : (w : Walked) → (orders_told w).refusal ≡ walked_number w
 told_number (Refusal number) = refl
 told_number (Orders walks) = refl
 
 -- the class of the list is walked, and the answer told
 pub orders_left :
-    (board : List ℕ) (records : List Worker) (f : Floor) (depth : ℕ) (class : Class) (w : Walked) (r : OrdersOutcome)
+    (board : List ℕ) (records : List Worker) (f : Floor) (depth : ℕ) (class : Class) (w : Result Walks Why) (r : OrdersOutcome)
     → class ≡ class_of records
     → OrdersWalked board f class depth w
-    → r ≡ orders_told w
+    → r ≡ orders_told (walked_as w)
     → OrdersLeft board records f depth r
 orders_left board records f depth class w r is walked e =
     let done = subst (λ (c : Class). OrdersWalked board f c depth w) is walked in
     record {
       whole = e ∙ ap orders_told (done.whole ∙ same_call board f records depth);
-      number = rw e (told_number w ∙ done.number ∙ same_number board f records depth);
+      number = rw e (told_number (walked_as w) ∙ walked_told w ∙ done.number ∙ same_number board f records depth);
     }

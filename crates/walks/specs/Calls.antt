@@ -1,5 +1,5 @@
 -- All orders as a call: its number of refusal, and its whole outcome as a function of what it is given.
-use Rattle.std.specs.Prelude.{ℕ, Bool, cond, ◌&&◌, not, List, [], ◌∷◌, length, take, eqb, leb}
+use Rattle.std.specs.Prelude.{ℕ, Bool, cond, ◌&&◌, not, List, [], ◌∷◌, length, take, eqb, leb, Result, Ok, Err}
 use Rattle.turn.specs.declared.Worker.{Worker}
 use Rattle.turn.specs.Worker.{broken, within}
 use Rattle.turn.specs.Turn.{bucket_refusal}
@@ -8,8 +8,9 @@ use Rattle.engine.specs.Board.{bucket_at}
 use Rattle.engine.specs.Calls.{record_in}
 use Rattle.engine.specs.Refusals.{wrong_sizes, any_record}
 use Rattle.walks.specs.declared.Class.{Class}
-use Rattle.walks.specs.declared.Walked.{Walked}
-use Rattle.walks.specs.declared.Walked.TheVariants.{Refusal, Orders}
+use Rattle.walks.specs.declared.Walks.{Walks}
+use Rattle.turn.specs.declared.refusal.Refusal.{Refusal as Why}
+use Rattle.turn.specs.Number.{number}
 use Rattle.walks.specs.Orders.{orders, counted}
 
 -- §6.10: more than one bucket, more than three workers, or a depth that is not from 1 to 24
@@ -25,6 +26,16 @@ unfoldable pub orders_number : List ℕ → Floor → List Worker → ℕ → �
 orders_number board f records listed depth =
     cond (wrong_sizes f board listed) 1
     (cond (not_small f depth) 10 (cond (any_record broken records) 3 (bucket_refusal (bucket_at board 0))))
+
+-- §18.4, §14.9: what all orders answers: the number of refusal, or the counts
+pub data Walked : Type 0 where
+  Refusal : ℕ → Walked
+  Orders : Walks → Walked
+
+-- so of the code's answer
+abbrev pub walked_as : Result Walks Why → Walked
+walked_as (Ok walks) = Orders walks
+walked_as (Err why) = Refusal (number why)
 
 -- §18.4: the counts over all orders, or the number alone
 unfoldable pub orders_call : List ℕ → Floor → List Worker → ℕ → ℕ → Walked

@@ -1,6 +1,6 @@
 -- What all orders answers, in numbers, for a caller that knows no enum.
-use Rattle.walks.specs.declared.Walked.{Walked}
-use Rattle.walks.specs.declared.Walked.TheVariants.{Refusal, Orders}
+use Rattle.walks.specs.Calls.{Walked}
+use Rattle.walks.specs.Calls.{Refusal, Orders}
 use Rattle.walks.specs.declared.OrdersOutcome.{OrdersOutcome}
 
 -- §7.1, §14.9: a refusal has its number, and 0 for each count

@@ -1,11 +1,13 @@
 // Whether a class is a small one, and none of it broken; and its records and words by value.
 ghost use Rattle.std.specs.Prelude.{◌≡◌, ◌||◌, length};
+ghost use Rattle.turn.specs.Number.{result_number};
 ghost use Rattle.turn.specs.Worker.{broken};
 ghost use Rattle.walks.specs.Calls.{not_small, size_number};
 ghost use Rattle.walks.specs.Walk.{seated, class_number};
 
 use engine::Floor;
-use turn::{Worker, bucket, record, refusal};
+use turn::refusal::Refusal;
+use turn::{Worker, bucket, record};
 
 // §6.10: whether a class is too large to be walked, or the depth out of its range.
 fn is_large(floor: Floor, depth: usize) -> bool
@@ -23,17 +25,15 @@ fn is_large(floor: Floor, depth: usize) -> bool
     depth > 24
 }
 
-// §6.1, §6.10, §7.2: the number by which sizes and depth refuse, or 0. A run of no turns is refused for its sizes alone.
-pub fn size_refusal(board: &[u64], floor: Floor, listed: usize, depth: usize) -> u8
-    ensures { result ≡ size_number board.now floor listed depth }
+// §6.1, §6.10, §7.2: why sizes and depth refuse a call, if they do. A run of no turns is refused for its sizes alone.
+pub fn size_refusal(board: &[u64], floor: Floor, listed: usize, depth: usize) -> Result<(), Refusal>
+    ensures { result_number result ≡ size_number board.now floor listed depth }
 {
-    if engine::run_refusal(floor, board.len(), listed, 0) != 0 {
-        return refusal::WRONG_SIZES;
-    }
+    engine::run_refusal(floor, board.len(), listed, 0)?;
     if is_large(floor, depth) {
-        return refusal::NO_SMALL_CLASS;
+        return Err(Refusal::NoSmallClass);
     }
-    0
+    Ok(())
 }
 
 // §18.1: who stands at a place of a class: past the end of the list somebody idle, who has no turn.
@@ -68,17 +68,17 @@ fn are_broken(a: Worker, b: Worker, c: Worker) -> bool
     is_broken(c)
 }
 
-// §6.3, §6.7, §7.2: the number by which records and bucket refuse, or 0.
-pub fn class_refusal(words: &[u64], a: Worker, b: Worker, c: Worker) -> u8
-    ensures { result ≡ class_number words.now a b c }
+// §6.3, §6.7, §7.2: why records and bucket refuse a call, if they do.
+pub fn class_refusal(words: &[u64], a: Worker, b: Worker, c: Worker) -> Result<(), Refusal>
+    ensures { result_number result ≡ class_number words.now a b c }
 {
     if are_broken(a, b, c) {
-        return refusal::BROKEN_RECORD;
+        return Err(Refusal::BrokenRecord);
     }
     if bucket::is_broken(words) {
-        return refusal::BROKEN_BUCKET;
+        return Err(Refusal::BrokenBucket);
     }
-    0
+    Ok(())
 }
 
 // §14.12: the words of the only bucket, by value.

@@ -1,11 +1,14 @@
 // The recursion over the depth that is left.
-ghost use Rattle.std.specs.Prelude.{◌≡◌, ◌+◌, ◌≤◌, max};
+ghost use Rattle.std.specs.Prelude.{◌≡◌, ◌+◌, ◌≤◌};
+ghost use Rattle.turn.specs.Turn.{tried_as};
 ghost use Rattle.engine.specs.Calls.{losses};
 ghost use Rattle.walks.specs.Orders.{no_walks, one_walk, together};
 ghost use Rattle.walks.specs.Walk.{three_idle, begun_by, walks, Fit};
 
 use crate::Walks;
-use turn::{Action, Worker, record, sleep};
+use engine::tally;
+use turn::refusal::Refusal;
+use turn::{TurnDone, Worker, record, sleep};
 
 // No walk at all.
 fn none() -> Walks
@@ -39,15 +42,6 @@ pub fn one(ended: bool, lost: u64) -> Walks
     }
 }
 
-fn larger(m: u64, n: u64) -> u64
-    ensures { result ≡ max m n }
-{
-    if m < n {
-        return n;
-    }
-    m
-}
-
 // §18.4: the counts of some walks and of some others.
 pub fn sum(a: Walks, b: Walks) -> Walks
     requires { Fit a × Fit b }
@@ -57,19 +51,27 @@ pub fn sum(a: Walks, b: Walks) -> Walks
         finished: a.finished + b.finished,
         cut: a.cut + b.cut,
         lost: a.lost + b.lost,
-        most: larger(a.most, b.most),
+        most: a.most.max(b.most),
     }
 }
 
-// §4.10: 1 for a lost swap, else 0.
-fn lost_by(action: Action) -> u64
-    ensures { result ≡ losses action }
+// Whose record is left after a turn: refused, a turn leaves its own.
+fn left_by(own: Worker, answer: Result<TurnDone, Refusal>) -> Worker
+    ensures { result ≡ (tried_as own answer).worker }
 {
-    match action {
-        Action::Read => 0,
-        Action::Store => 0,
-        Action::Won => 0,
-        Action::Lost => 1,
+    match answer {
+        Ok(done) => done.worker,
+        Err(_) => own,
+    }
+}
+
+// §4.10: 1 for a lost swap, else 0; refused, a turn loses none.
+fn lost_by(own: Worker, answer: Result<TurnDone, Refusal>) -> u64
+    ensures { result ≡ losses (tried_as own answer).said.report.action }
+{
+    match answer {
+        Ok(done) => tally::losses(done.report.action) as u64,
+        Err(_) => 0,
     }
 }
 
@@ -103,12 +105,9 @@ pub fn begun_by(
         return none();
     }
     let mut after = words;
-    let tried = turn::try_turn(&mut after, 0, own);
-    let left = tried.worker;
-    let said = tried.said;
-    let report = said.report;
-    let action = report.action;
-    let so_far = lost + lost_by(action);
+    let answer = turn::try_turn(&mut after, 0, own);
+    let left = left_by(own, answer);
+    let so_far = lost + lost_by(own, answer);
     if are_idle(left, next, last) {
         return one(true, so_far);
     }

@@ -1,6 +1,6 @@
 use borrow.Author.Rules.{rules}
 use mathlib.Core.Path.{sym, ◌∙◌}
-use Rattle.walks.specs.declared.Walked.TheVariants.{Refusal, Orders}
+use Rattle.walks.specs.Calls.{Refusal, Orders}
 use Rattle.orders.proofs.Answers.{answers_listing, answers_walked}
 use Rattle.orders.proofs.walked.Statement.{statement}
 use Rattle.orders.proofs.walked.Tie as tie
