@@ -89,7 +89,8 @@ pub fn are_idle(a: Worker, b: Worker, c: Worker) -> bool
 }
 
 // §14.12, §18.3: the walks that begin with a turn of `own`: it has its turn, and where somebody is busy after that, and turns are left, they go
-// on with a turn of each. Of who is idle there are none. The others sleep through the turn; a walk that ends with it need not count that.
+// on with a turn of each. Of who is idle there are none. The others sleep through the turn; a walk that ends with it need not count that. The
+// three stand one by one, and in no array, since each turn passes them on in another order.
 pub fn begun_by(
     depth: usize,
     words: [u64; 8],
