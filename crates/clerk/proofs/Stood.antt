@@ -16,7 +16,7 @@ use Rattle.engine.specs.Calls.{Refusal, Lots}
 use Rattle.engine.specs.Board.{bucket_of, lots_on}
 use Rattle.engine.specs.Calls.{count_call, record_in}
 use Rattle.engine.specs.Move.{Line}
-use Rattle.hall.specs.declared.Totalled.TheVariants.{Slots}
+use Rattle.hall.specs.Totalled.{Slots}
 use Rattle.hall.specs.Calls.{total_call}
 use Rattle.history.specs.Trace.{Entry, acted}
 use Rattle.history.specs.History.{State, Opening, Call, opened, workers_of, buckets_of, after, entries, state_from, trace_from, is_start, state, trace, inserts, FewInserts}

@@ -11,7 +11,7 @@ use Rattle.engine.specs.Calls.{show_call, count_call}
 use Rattle.engine.specs.Calls.{Lots}
 use Rattle.engine.specs.Refusals.{wrong_floor}
 use Rattle.engine.specs.Move.{Line, moved_floor}
-use Rattle.hall.specs.declared.Totalled.TheVariants.{Slots}
+use Rattle.hall.specs.Totalled.{Slots}
 use Rattle.hall.specs.Calls.{total_call}
 use Rattle.history.specs.Trace.{Retiring, Entry, retired, By, OwnEnd, None}
 use Rattle.history.specs.History.{State, Call, Ticket, retire, record_of, begins, workers_of}

@@ -21,8 +21,8 @@ use Rattle.engine.specs.Promises.{CountDone}
 use Rattle.engine.specs.Firsts.{firsts}
 use Rattle.engine.proofs.Turns.{tried_is_turned}
 use Rattle.engine.proofs.Firsts.{firsts_none}
-use Rattle.hall.specs.declared.Totalled.{Totalled}
-use Rattle.hall.specs.declared.Next.{Next}
+use Rattle.hall.specs.Totalled.{Totalled}
+use Rattle.hall.specs.Next.{Next}
 use Rattle.hall.specs.Refusals.{hall_turn_number}
 use Rattle.hall.specs.Calls.{hall_try, hall_turn, index_left, hall_retire, totalled_number, next_number}
 use Rattle.hall.specs.Promises.{TurnKept, RetireKept, TotalTold, NextTold}

@@ -10,8 +10,8 @@ use Rattle.engine.specs.Calls.{Started}
 use Rattle.engine.specs.declared.Totals.{Totals}
 use Rattle.engine.specs.Calls.{Counted}
 use Rattle.engine.specs.Calls.{Refusal, Lots}
-use Rattle.hall.specs.declared.Totalled.{Totalled}
-use Rattle.hall.specs.declared.Next.{Next}
+use Rattle.hall.specs.Totalled.{Totalled}
+use Rattle.hall.specs.Next.{Next}
 use Rattle.floor.specs.declared.Outcome.{Outcome}
 use Rattle.floor.specs.declared.ReportOutcome.{ReportOutcome}
 use Rattle.floor.specs.declared.TurnOutcome.{TurnOutcome}

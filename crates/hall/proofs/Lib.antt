@@ -1,3 +1,4 @@
+pub mod Answers
 -- the statements
 pub mod Reading
 pub mod Fresh
@@ -15,7 +16,6 @@ pub mod Determined
 pub mod Followed
 pub mod Lots
 mod Searching
-mod Words
 -- the promises, call by call
 mod Numbers
 mod Turns

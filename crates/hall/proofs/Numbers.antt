@@ -6,9 +6,12 @@ use mathlib.Core.Path.{◌≡◌, refl, sym, ap, ◌∙◌}
 use native.Mathlib.Omega.{arith}
 use lib.Dec.{eqb}
 use lib.ListN.{length}
-use borrow.Author.Tests.{eqb-true, eqb-false, not-false}
+use borrow.Author.Tests.{eqb-true, eqb-false, eq-eqb, ne_eqb, not-false}
 use Rattle.mark.proofs.Choices.{by_cases}
 use Rattle.turn.specs.declared.Worker.{Worker}
+use Rattle.turn.specs.declared.refusal.Refusal.{Refusal}
+use Rattle.turn.specs.Number.{number}
+use Rattle.turn.proofs.Refusing.{number_some}
 use Rattle.turn.specs.Turn.{Tried}
 use Rattle.turn.specs.Turn.{Said}
 use Rattle.turn.specs.Bucket.{cell, mark_cell}
@@ -17,7 +20,7 @@ use Rattle.turn.specs.Turn.{After, after, answer_of}
 use Rattle.engine.specs.declared.Floor.{Floor}
 use Rattle.engine.specs.declared.Touched.{Touched}
 use Rattle.engine.specs.Board.{bucket_of}
-use Rattle.engine.specs.Refusals.{wrong_listed, wrong_sizes, no_worker, bucket_for, each_number, turn_number, retire_number}
+use Rattle.engine.specs.Refusals.{wrong_listed, wrong_sizes, no_worker, bucket_for, each_number, turn_number, retire_number, run_refusal}
 use Rattle.engine.specs.Calls.{tried, touched_by}
 use Rattle.engine.specs.Promises.{BucketTouched}
 use Rattle.engine.specs.Room.{Right}
@@ -42,9 +45,11 @@ no_first true u none = absurd (omega arith)
 no_first false true none = absurd (omega arith)
 no_first false false none = (refl, refl)
 
--- an untrue index gives some number
-pub untrue_some : (n : ℕ) → eqb (untrue_after n true) 0 ≡ false
-untrue_some n = by_cases (λ (x : ℕ). eqb x 0 ≡ false) (eqb n 0) 11 n (λ is. refl) (λ isnot. isnot)
+-- the test of the sizes gives 1, if it gives a number at all
+pub only_one : (t u : Bool) → (wrong_number t u ≡ 0 → ⊥) → wrong_number t u ≡ 1
+only_one true u some = refl
+only_one false true some = refl
+only_one false false some = absurd (some refl)
 
 -- where the index is true, or there is another number, 11 does not come
 pub after_same : (n : ℕ) (t : Bool) → (n ≡ 0 → t ≡ false) → untrue_after n t ≡ n
@@ -103,6 +108,21 @@ module _ (f : Floor) (board index : List ℕ) (listed : ℕ) where
 
   abbrev short : Bool
   short = wrong_index (length index)
+
+  -- with five words it is the engine's
+  pub five_sized : length index ≡ 5 → run_refusal f (length board) listed 0 ≡ sizes_number
+  five_sized five = rw (eq-eqb (length index) 5 five)
+
+  pub sized_none : length index ≡ 5 → ◌≡◌ {A = ℕ} 0 (run_refusal f (length board) listed 0) → sizes_number ≡ 0
+  sized_none five none = sym (none ∙ five_sized five)
+
+  -- with any other number of words it is 1
+  pub short_sized : (length index ≡ 5 → ⊥) → ◌≡◌ {A = ℕ} 1 sizes_number
+  short_sized other = rw (ne_eqb (length index) 5 other)
+
+  -- so a refusal that has its number has 1
+  pub sized_one : (why : Refusal) → number why ≡ sizes_number → number why ≡ 1
+  sized_one why is = is ∙ only_one short unsized (λ none. number_some why (is ∙ none))
 
   -- where they are right, there are five words, and floor and board fit together
   pub right_both : sizes_number ≡ 0 → (length index ≡ 5) × Right f board

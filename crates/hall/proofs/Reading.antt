@@ -16,7 +16,7 @@ use Rattle.bits.specs.Bits.{is_set}
 use Rattle.bits.specs.Seek.{seek}
 use Rattle.bits.proofs.Seeks.{seek_ge, seek_passes, seek_first, seek_same}
 use Rattle.engine.specs.Board.{lots_on}
-use Rattle.hall.specs.declared.Next.TheVariants as Next
+use Rattle.hall.specs.Next as Next
 use Rattle.hall.specs.Index.{index_words, bit_in, valid_in, occupied, moved, followed, untrue}
 use Rattle.hall.specs.Calls.{first_of, next_in}
 use Rattle.hall.specs.Reading.{Reads, occupied_at, next_on, IsNext}

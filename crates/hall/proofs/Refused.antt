@@ -12,8 +12,8 @@ use Rattle.engine.specs.declared.Plan.{Plan}
 use Rattle.engine.specs.declared.Seat.{Seat}
 use Rattle.engine.specs.Calls.{planned, turned, retired, unbegun}
 use Rattle.engine.proofs.Refused.{refuses}
-use Rattle.hall.specs.declared.Totalled.TheVariants as Totalled
-use Rattle.hall.specs.declared.Next.TheVariants as Next
+use Rattle.hall.specs.Totalled as Totalled
+use Rattle.hall.specs.Next as Next
 use Rattle.hall.specs.Refusals.{hall_open_number, hall_turn_number, hall_retire_number, hall_run_number, hall_move_number, question_number}
 use Rattle.hall.specs.Calls.{hall_open, opened_index, hall_turn, index_left, hall_retire, retired_index, indexed, hall_run, hall_move, moved_index, total_call, next_call}
 

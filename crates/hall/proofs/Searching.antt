@@ -1,17 +1,19 @@
 -- The next bucket, word by word. Assumes nothing.
 use Prim.Native.Nat.{ℕ, ◌+◌, ◌-◌, ◌*◌, ◌/◌, ◌%◌, ◌≤◌, ◌<◌}
-use mathlib.Core.Bool.{Bool, cond}
+use mathlib.Core.Bool.{Bool, true, false, cond}
 use mathlib.Core.List.{List}
 use mathlib.Core.Path.{◌≡◌, refl, ap, ◌∙◌}
 use native.Mathlib.Omega.{arith}
 use lib.Dec.{ltb}
 use lib.ListN.{get_or}
-use borrow.Author.Tests.{lt-ltb, le-ltb}
+use borrow.Author.Tests.{lt-ltb, le-ltb, ltb-true, ltb-false}
+use Rattle.std.proofs.Common.{Some, None}
+use Rattle.std.specs.Bool.{then_some}
 use Rattle.mark.proofs.Choices.{by_cases}
 use Rattle.bits.specs.Seek.{seek}
-use Rattle.bits.specs.Bits.{is_set, first_from}
+use Rattle.bits.specs.Bits.{is_set, first_from, bit_if_any}
 use Rattle.bits.proofs.Seeks.{seek_ge, seek_same, seek_further, seek_on}
-use Rattle.hall.specs.declared.Next.{Next}
+use Rattle.hall.specs.Next.{Next, bucket_if_any}
 use Rattle.hall.specs.Index.{bit_in}
 use Rattle.hall.specs.Calls.{first_of}
 
@@ -76,3 +78,26 @@ module _ (index : List ℕ) (k bit : ℕ) (in_word_lem : bit < 64) where
 pub first_past : (p : ℕ → Bool) (n from : ℕ) → n ≤ from → Next.Nowhere ≡ first_of p n from
 unfolding first_of
 first_past p n from past = rw (le-ltb (seek p from (n - from)) n (omega (arith, seek_ge p from (n - from))))
+
+-- ---- what a word told
+
+-- a bit that is told is one of the word's
+pub some_bit : (i n : ℕ) → Some n ≡ bit_if_any i → (i < 64) × (n ≡ i)
+some_bit i n = by (ltb i 64) refl
+  where
+    by : (t : Bool) → ltb i 64 ≡ t → Some n ≡ cond t (Some i) None → (i < 64) × (n ≡ i)
+    by true is same = (ltb-true i 64 is, cc)
+    by false is same = cc
+
+-- and where none is, it has none
+pub none_bit : (i : ℕ) → None ≡ bit_if_any i → 64 ≤ i
+none_bit i = by (ltb i 64) refl
+  where
+    by : (t : Bool) → ltb i 64 ≡ t → None ≡ cond t (Some i) None → 64 ≤ i
+    by true is same = cc
+    by false is same = ltb-false i 64 is
+
+-- a bucket is told where there is one of its number
+pub bucket_told : (t : Bool) (b : ℕ) → bucket_if_any (then_some t b) ≡ cond t (Next.Bucket b) Next.Nowhere
+bucket_told true b = refl
+bucket_told false b = refl

@@ -15,8 +15,8 @@ use Rattle.engine.specs.Board.{bucket_of, bucket_at}
 use Rattle.engine.specs.Move.{moved_by}
 use Rattle.engine.specs.Refusals.{bucket_for}
 use Rattle.engine.specs.Calls.{Opened, Ran, planned, opened_by, laid_by, turned, tried, retired, vacated_on, unbegun, record_in, go_on}
-use Rattle.hall.specs.declared.Totalled.{Totalled}
-use Rattle.hall.specs.declared.Next.{Next}
+use Rattle.hall.specs.Totalled.{Totalled}
+use Rattle.hall.specs.Next.{Next}
 use Rattle.hall.specs.Index.{index_words, total_in, bit_in, followed}
 use Rattle.hall.specs.Refusals.{hall_open_number, hall_each_number, hall_turn_number, hall_retire_number, hall_run_number, hall_move_number, question_number}
 

@@ -2,7 +2,7 @@
 use Rattle.std.specs.Prelude.{ℕ, ◌≤◌, ◌<◌, Bool, true, false, List, ◌≡◌, length}
 use Rattle.turn.specs.Bucket.{cell, mark_cell}
 use Rattle.engine.specs.Board.{bucket_at, lots_on}
-use Rattle.hall.specs.declared.Next.{Next}
+use Rattle.hall.specs.Next.{Next}
 use Rattle.hall.specs.Index.{index_words, total_in, bit_in, occupied}
 use Rattle.hall.specs.Calls.{first_of}
 

@@ -1,30 +1,16 @@
 // The calls of the desk that take the hall display's index: the engine's, which keep it true, and the display's two questions.
 #![tactic(auto)]
 
-ghost use Rattle.std.specs.Prelude.{◌≡◌, true, length};
+ghost use Rattle.std.specs.Prelude.{◌≡◌};
 ghost use Rattle.engine.specs.Room.{Right};
-ghost use Rattle.hall.specs.Refusals.{untrue_after, untrue_if_held};
+ghost use Rattle.hall.specs.Refusals.{untrue_if_held};
 ghost use Rattle.hall.specs.Promises.{FloorKept, TurnKept, RetireKept, HallRunTested, MoveKept, TotalTold, NextTold};
 
-use engine::{Floor, Laid, Moved, Plan, Seat};
-use turn::{Retired, Tried, Worker, refusal, retire};
+use engine::{Floor, Moved, Plan, Seat};
+use turn::refusal::Refusal;
+use turn::{TurnDone, Worker};
 
 mod display; // the five words
-
-// §21.3, §14.9: what the display is told of the total.
-#[derive(Clone, Copy)]
-pub enum Totalled {
-    Refusal(u8),
-    Slots(u64),
-}
-
-// §21.4, §14.9: what it is told of the next bucket: that there is none is no number.
-#[derive(Clone, Copy)]
-pub enum Next {
-    Refusal(u8),
-    Nowhere,
-    Bucket(usize),
-}
 
 // §2.10, §21.2: opens a floor, and makes the index.
 pub fn open_floor(
@@ -33,100 +19,93 @@ pub fn open_floor(
     floor: Floor,
     listed: usize,
     plan: Plan,
-) -> Laid
+) -> Result<Floor, Refusal>
     ensures { FloorKept board.old index.old floor listed plan board.new index.new result }
 {
-    if index.len() != display::WORDS {
-        return Laid {
-            floor,
-            idle: 0,
-            refusal: refusal::WRONG_SIZES,
-        };
-    }
-    let laid = engine::open_floor(board, floor, listed, plan);
-    if laid.refusal != 0 {
-        return laid;
-    }
+    let Some(index) = index.as_mut_array() else {
+        return Err(Refusal::WrongSizes);
+    };
+    let opened = engine::open_floor(board, floor, listed, plan)?;
     display::clear(index);
-    laid
+    Ok(opened)
 }
 
-// §6.11, §7.2: 11 comes after every other number.
-fn untrue_after(number: u8) -> u8
-    ensures { result ≡ untrue_after number true }
-{
-    if number == 0 {
-        return refusal::UNTRUE_INDEX;
-    }
-    number
-}
-
-// §4.1, §21.2: one turn of one worker, given its record. The index is tested first, since nearly every turn passes: where it does not, the
-// turn is refused, and another number may come before 11.
-pub fn try_turn(board: &mut [u64], index: &mut [u64], seat: Seat, w: Worker) -> Tried
+// §4.1, §21.2, §6.11: one turn of one worker, given its record. The index is tested first, since nearly every turn passes: where it does not,
+// the turn is refused, and another number may come before 11.
+pub fn try_turn(
+    board: &mut [u64],
+    index: &mut [u64],
+    seat: Seat,
+    w: Worker,
+) -> Result<TurnDone, Refusal>
     ensures { TurnKept board.old index.old seat w board.new index.new result }
 {
+    let Some(index) = index.as_mut_array() else {
+        return Err(Refusal::WrongSizes);
+    };
     let floor = seat.floor;
-    if run_refusal(floor, board.len(), seat.listed, index.len(), 0) != 0 {
-        return turn::refused(refusal::WRONG_SIZES, w);
-    }
+    engine::run_refusal(floor, board.len(), seat.listed, 0)?;
     if display::is_untrue_for(board, index, floor, w.key) {
-        return turn::refused(untrue_after(engine::turn_refusal(board, seat, w)), w);
+        engine::turn_refusal(board, seat, w)?;
+        return Err(Refusal::UntrueIndex);
     }
-    let tried = engine::try_turn(board, seat, w);
-    let said = tried.said;
-    if said.refusal != 0 {
-        return tried;
-    }
-    let report = said.report;
+    let done = engine::try_turn(board, seat, w)?;
+    let report = done.report;
     display::follow(index, report.bucket, report.before, report.after);
-    tried
+    Ok(done)
 }
 
 // §19.3: who holds no slot has no business with the bucket, and so none with what the index tells of it.
-fn is_untrue_if_held(board: &[u64], index: &[u64], floor: Floor, w: Worker) -> bool
-    requires { (length index.now ≡ 5) × Right floor board.now }
+fn is_untrue_if_held(board: &[u64], index: &[u64; display::WORDS], floor: Floor, w: Worker) -> bool
+    requires { Right floor board.now }
     ensures { result ≡ untrue_if_held floor board.now index.now w }
 {
-    if w.held == mark::NO_SLOT {
-        return false;
-    }
-    display::is_untrue_for(board, index, floor, w.key)
+    w.held != mark::NO_SLOT && display::is_untrue_for(board, index, floor, w.key)
 }
 
-// §19.1, §21.2: retires one worker, given its record.
-pub fn retire(board: &mut [u64], index: &mut [u64], seat: Seat, w: Worker) -> Retired
+// §19.1, §21.2, §6.11: retires one worker, given its record.
+pub fn retire(
+    board: &mut [u64],
+    index: &mut [u64],
+    seat: Seat,
+    w: Worker,
+) -> Result<Worker, Refusal>
     ensures { RetireKept board.old index.old seat w board.new index.new result }
 {
+    let Some(index) = index.as_mut_array() else {
+        return Err(Refusal::WrongSizes);
+    };
     let floor = seat.floor;
-    if run_refusal(floor, board.len(), seat.listed, index.len(), 0) != 0 {
-        return retire::refused(refusal::WRONG_SIZES, w);
-    }
+    engine::run_refusal(floor, board.len(), seat.listed, 0)?;
     if is_untrue_if_held(board, index, floor, w) {
-        return retire::refused(untrue_after(engine::retire_refusal(board, seat, w)), w);
+        engine::retire_refusal(board, seat, w)?;
+        return Err(Refusal::UntrueIndex);
     }
     let before = engine::touched_by(board, floor, w.key);
-    let retired = engine::retire(board, seat, w);
-    if retired.refusal != 0 {
-        return retired;
-    }
+    let retired = engine::retire(board, seat, w)?;
     let after = engine::touched_by(board, floor, w.key);
     display::follow(index, before.bucket, before.word, after.word);
-    retired
+    Ok(retired)
 }
 
-// §7.2: the number that refuses a run as a whole, or 0: of a board of so many words, a list of so many records, an index of so many words, and
+// §7.2: why a run is refused as a whole, if it is: on a board of so many words, with a list of so many records and an index of so many words, of
 // so many turns. With no turn it is the test of the sizes alone.
-pub fn run_refusal(floor: Floor, words: usize, listed: usize, entries: usize, count: usize) -> u8
+pub fn run_refusal(
+    floor: Floor,
+    words: usize,
+    listed: usize,
+    entries: usize,
+    count: usize,
+) -> Result<(), Refusal>
     ensures { HallRunTested floor words listed entries count result }
 {
     if entries != display::WORDS {
-        return refusal::WRONG_SIZES;
+        return Err(Refusal::WrongSizes);
     }
     engine::run_refusal(floor, words, listed, count)
 }
 
-// §22.1, §22.4: moves the lots to another board, and makes the index afresh.
+// §22.1, §22.4: moves the lots to another board, and makes the index afresh. The numbers are the engine's, and so is what is handed back.
 pub fn move_lots(
     old: &[u64],
     board: &mut [u64],
@@ -138,36 +117,39 @@ pub fn move_lots(
 ) -> Moved
     ensures { MoveKept old.now board.old index.old floor listed rest buckets board.new index.new result }
 {
-    if index.len() != display::WORDS {
+    let Some(index) = index.as_mut_array() else {
         return Moved {
             floor,
-            refusal: refusal::WRONG_SIZES,
+            refusal: Refusal::WrongSizes.into(),
         };
-    }
+    };
     let moved = engine::move_lots(old, board, floor, listed, rest, buckets);
-    if moved.refusal != 0 {
-        return moved;
+    if moved.refusal == 0 {
+        display::make(index, board, buckets);
     }
-    display::make(index, board, buckets);
     moved
 }
 
 // §21.3: the number of valid slots.
-pub fn total(board: &[u64], index: &[u64], floor: Floor) -> Totalled
+pub fn total(board: &[u64], index: &[u64], floor: Floor) -> Result<u64, Refusal>
     ensures { TotalTold board.now index.now floor result }
 {
-    if run_refusal(floor, board.len(), floor.workers, index.len(), 0) != 0 {
-        return Totalled::Refusal(refusal::WRONG_SIZES);
-    }
-    Totalled::Slots(index[0])
+    run_refusal(floor, board.len(), floor.workers, index.len(), 0)?;
+    Ok(index[0])
 }
 
-// §21.4: the first occupied bucket at or after one.
-pub fn next_occupied(board: &[u64], index: &[u64], floor: Floor, from: usize) -> Next
+// §21.4: the first occupied bucket at or after one, if there is one.
+pub fn next_occupied(
+    board: &[u64],
+    index: &[u64],
+    floor: Floor,
+    from: usize,
+) -> Result<Option<usize>, Refusal>
     ensures { NextTold board.now index.now floor from result }
 {
-    if run_refusal(floor, board.len(), floor.workers, index.len(), 0) != 0 {
-        return Next::Refusal(refusal::WRONG_SIZES);
-    }
-    display::next(index, floor.buckets, from)
+    let Ok(index) = <&[u64; display::WORDS]>::try_from(index) else {
+        return Err(Refusal::WrongSizes);
+    };
+    engine::run_refusal(floor, board.len(), floor.workers, 0)?;
+    Ok(display::next(index, floor.buckets, from))
 }

@@ -7,8 +7,8 @@ use mathlib.Core.Path.{◌≡◌, refl, ap, subst}
 use native.Mathlib.Omega.{arith}
 use Rattle.mark.proofs.Choices.{not_both}
 use Rattle.engine.specs.Board.{lots_on}
-use Rattle.hall.specs.declared.Totalled.TheVariants.{Slots}
-use Rattle.hall.specs.declared.Next.{Next}
+use Rattle.hall.specs.Totalled.{Slots}
+use Rattle.hall.specs.Next.{Next}
 use Rattle.hall.specs.Calls.{total_call, next_call}
 use Rattle.hall.specs.Reading.{Reads, occupied_at, next_on, IsNext}
 use Rattle.hall.proofs.Reading.{reads_next, first_is}

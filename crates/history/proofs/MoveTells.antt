@@ -24,7 +24,7 @@ use Rattle.engine.proofs.Sizes.{right_listed}
 use Rattle.engine.proofs.Many.{over_some}
 use Rattle.engine.proofs.Seating.{any_over_none}
 use Rattle.engine.proofs.AnyUnder.{any_clear}
-use Rattle.hall.specs.declared.Totalled.TheVariants.{Slots}
+use Rattle.hall.specs.Totalled.{Slots}
 use Rattle.hall.specs.Refusals.{hall_move_number}
 use Rattle.hall.specs.Calls.{total_call}
 use Rattle.history.specs.Numbers.{OneOf}

@@ -4,8 +4,8 @@ use Rattle.std.specs.Prelude.{ℕ, true, false, List, ◌≡◌, length}
 use Rattle.engine.specs.Calls.{Lots}
 use Rattle.engine.specs.Board.{lots_on}
 use Rattle.engine.specs.Calls.{count_call}
-use Rattle.hall.specs.declared.Totalled.TheVariants.{Slots}
-use Rattle.hall.specs.declared.Next.TheVariants.{Nowhere, Bucket}
+use Rattle.hall.specs.Totalled.{Slots}
+use Rattle.hall.specs.Next.{Nowhere, Bucket}
 use Rattle.hall.specs.Refusals.{hall_turn_number, hall_retire_number}
 use Rattle.hall.specs.Calls.{total_call, next_call}
 use Rattle.hall.specs.Reading.{Reads, occupied_at, next_on, IsNext}

@@ -7,7 +7,7 @@ use Rattle.engine.specs.Board.{bucket_of, lots_on}
 use Rattle.engine.specs.Refusals.{wrong_floor}
 use Rattle.engine.specs.Calls.{count_call}
 use Rattle.engine.specs.Move.{lines_on, lines_for, moved_floor}
-use Rattle.hall.specs.declared.Totalled.TheVariants.{Slots}
+use Rattle.hall.specs.Totalled.{Slots}
 use Rattle.hall.specs.Calls.{total_call}
 use Rattle.hall.specs.Reading.{Reads}
 use Rattle.history.specs.Numbers.{OneOf}
