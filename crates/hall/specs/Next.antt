@@ -1,8 +1,9 @@
--- §21.4, §14.9: what the display is told of the next bucket: the number of refusal, that there is none, which is no number, or the bucket.
+-- What the display is told of the next bucket.
 use Rattle.std.specs.Prelude.{ℕ, Result, Ok, Err, Option, Some, None}
 use Rattle.turn.specs.declared.refusal.Refusal.{Refusal as Why}
 use Rattle.turn.specs.Number.{number}
 
+-- §21.4, §14.9: what the display is told of the next bucket: the number of refusal, that there is none, which is no number, or the bucket.
 pub data Next : Type 0 where
   Refusal : ℕ → Next
   Nowhere : Next

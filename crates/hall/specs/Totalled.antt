@@ -1,8 +1,9 @@
--- §21.3, §14.9: what the display is told of the total: the number of refusal, or the slots.
+-- What the display is told of the total.
 use Rattle.std.specs.Prelude.{ℕ, Result, Ok, Err}
 use Rattle.turn.specs.declared.refusal.Refusal.{Refusal as Why}
 use Rattle.turn.specs.Number.{number}
 
+-- §21.3, §14.9: what the display is told of the total: the number of refusal, or the slots.
 pub data Totalled : Type 0 where
   Refusal : ℕ → Totalled
   Slots : ℕ → Totalled
