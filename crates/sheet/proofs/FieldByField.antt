@@ -1,40 +1,47 @@
--- Field after field, and turn after turn: where a sheet stands, and that the buffer always has room. Assumes nothing.
+-- Field after field: where a sheet stands, and that the buffer always has room. Assumes nothing.
 use Prim.Native.Nat.{ℕ, zero, suc, ◌+◌, ◌-◌, ◌*◌, ◌≤◌, ◌<◌}
-use mathlib.Core.Bool.{cond}
+use mathlib.Core.Bool.{true, false}
 use mathlib.Core.Path.{◌≡◌, refl, sym, ap, ◌∙◌}
 use mathlib.Core.List.{List, [], ◌++◌, append_assoc}
 use native.Mathlib.Nat.{not-suc-le-zero}
-use native.Mathlib.Numerals.{add-one}
 use native.Mathlib.Omega.{arith}
 use lib.Dec.{eqb}
-use lib.ListN.{length, get_or, set, length-set}
-use borrow.Author.Tests.{eq-eqb, ne_eqb}
+use lib.ListN.{length, length-set, length-append, length-take, length-drop, length-replicate}
+use borrow.Author.Tests.{eq-eqb, ne_eqb, lt-ltb, le-ltb}
+use Rattle.mark.proofs.Choices.{by_cases}
 use Rattle.turn.specs.Turn.{After, after}
-use Rattle.engine.specs.declared.Floor.{Floor}
+use Rattle.std.specs.Prelude.{Result}
+use Rattle.turn.specs.declared.refusal.Refusal.{Refusal}
+use Rattle.turn.specs.declared.refusal.Refusal.TheVariants.{WrongSizes, NoWorker, BrokenRecord, BusyWorker, SpentTicket, IdleWorker, BrokenBucket, Malformed, TooLong, NoSmallClass, UntrueIndex, NotAtRest, CrowdedBucket}
+use Rattle.turn.specs.Number.{number as number_of}
 use Rattle.engine.specs.declared.Plan.{Plan}
-use Rattle.engine.specs.Calls.{Laid}
-use Rattle.engine.specs.Calls.{Started}
-use Rattle.engine.specs.Calls.{lay_call}
+use Rattle.engine.specs.declared.Totals.{Totals}
+use Rattle.engine.specs.Calls.{Opened, planned, open_call}
+use Rattle.engine.specs.Refusals.{open_number}
 use Rattle.engine.specs.Room.{Few}
 use Rattle.engine.proofs.Few.{few_le}
+use Rattle.pen.specs.declared.Pen.{Pen}
+use Rattle.pen.specs.Written.{Writes}
+use Rattle.pen.proofs.Decimal.{decimal_long}
+use Rattle.pen.proofs.Putting.{writes_none, writes_puts, puts_all}
 use Rattle.sheet.specs.declared.Call.{Call}
-use Rattle.sheet.specs.declared.Played.{Played}
+use Rattle.sheet.specs.declared.Field.{Field}
 use Rattle.sheet.specs.declared.Span.{Span}
 use Rattle.sheet.specs.declared.Field.TheVariants.{Opening, Calling, Turning}
 use Rattle.sheet.specs.Fields.{Whole, Refused, read_field}
-use Rattle.sheet.specs.Play.{Desk, desk_of, opened_desk, shut_floor, shut_desk, Outcome, outcome, seat_of, record_of, asked, call_field, open_field}
-use Rattle.sheet.specs.Play.{turn_at_desk, and_then, turns_done}
-use Rattle.sheet.specs.Listing.{Told, told, Ending, listed_first, told_refusal, refused, told_totals, over, after_field, one_field, fields_from}
-use Rattle.sheet.specs.Written.{Wrote}
-use Rattle.sheet.specs.Room.{due}
-use Rattle.sheet.specs.Promises.{Does, Tells, Leaves}
-use Rattle.sheet.proofs.Writing.{wrote_none, wrote_then}
+use Rattle.sheet.specs.Line.{totals_line, refusal_line}
+use Rattle.sheet.specs.Play.{Desk, shut_desk, Outcome, seat_of, record_of, asked, call_field, opened, open_field, turns_in, field_done}
+use Rattle.sheet.specs.Listing.{Told, told, Ending, listed_first, told_refusal, refused, told_totals, over, after_field, one_field, fields_from, played}
+use Rattle.sheet.specs.Room.{longest, due, Ready}
+use Rattle.sheet.specs.declared.Played.{Played}
+use Rattle.sheet.specs.declared.Stopped.{Stopped}
+use Rattle.sheet.specs.Promises.{Does, Stands, floor_of, records_of, written_of, stop_of, Leaves}
 use Rattle.sheet.proofs.Busy.{busy_none, busy_set_le}
-use Rattle.sheet.proofs.Fielding.{later_field, whole_next, whole_call, whole_turns}
-use Rattle.sheet.proofs.Laying.{laid_refused, laid_done}
+use Rattle.sheet.proofs.Fielding.{whole_next, whole_call, whole_turns}
+use Rattle.sheet.proofs.OneTurn.{ready_le, turns_ready, turns_pay}
 use Rattle.sheet.proofs.Seats.{asked_known, asked_workers}
-use Rattle.sheet.proofs.Sleeping.{IdleFrom, idle_opened, idle_set}
-use Rattle.sheet.proofs.Turns.{few_turn, turns_from, turns_here, turns_over}
+use Rattle.sheet.proofs.Sleeping.{idle_opened, idle_set}
+use Rattle.pen.proofs.Putting.{writes_then}
 
 -- ---- what is left
 
@@ -53,291 +60,272 @@ first_first l m e =
     let t = e.handed in
     ap (λ (lines : List ℕ). after e.words (told lines t.desk t.stop)) (sym (append_assoc l m t.lines))
 
-module _ (rest : ℕ → After Desk → Ending) (long at end : ℕ) (o : Outcome) (f : After Desk → Outcome) where
-  -- after a turn that was done its field goes on
-  after_done : o.stop ≡ 0 → after_field rest long at end (and_then o f) ≡ listed_first o.lines (after_field rest long at end (f o.left))
-  after_done none = rw (eq-eqb o.stop 0 none) (sym (first_first o.lines (f o.left).lines _))
+-- ---- what a field leaves
 
-  -- after a turn that was refused nothing comes
-  after_refused : (o.stop ≡ 0 → ⊥) → after_field rest long at end (and_then o f) ≡ listed_first o.lines (refused o.stop at o.left)
-  after_refused some = rw (ne_eqb o.stop 0 some, ne_eqb o.stop 0 some)
+module _ (sheet : List ℕ) (at next : ℕ) (board : List ℕ) (d : Desk) (was : Ready at d) (short : length sheet ≤ 16384) where
+  -- it is ready for the next, and 37 bytes of listing are paid by 13 of the sheet, which is the least that a call takes
+  record Left (o : Outcome) : Type 0 where
+    ready : o.stop ≡ 0 → Ready next o.left.handed
+    pays : 13 * due o.left.handed (length o.lines) + 37 * at ≤ 13 * due d 0 + 37 * next
 
-module _ (sheet : List ℕ) (total : Ending) (out₀ : List ℕ) where
-  -- what is told after the lines so far ends the listing
-  last_told :
-      (lines : List ℕ) (t : Told) (board : List ℕ) {out later : List ℕ} {written : ℕ} {r : Played}
-      → Wrote out₀ 0 lines out written
-      → listed_first lines (after board t) ≡ total
-      → Tells t out written later r
-      → Leaves total out₀ board later r
-  last_told lines t board so_far is tells =
-      rw (← is)
-      (record {
-        left = refl;
-        tells = record { lines = wrote_then so_far tells.lines; floor = tells.floor; records = tells.records; stop = tells.stop };
+  opened_left : (p : Plan) → read_field sheet at ≡ Whole (Opening p) next → Left (open_field p (after board d))
+  unfolding open_field open_call
+  opened_left p is =
+      let n = whole_next sheet at (Opening p) next is in
+      let idle = busy_none (length d.records) in
+      by_cases (λ (x : After Opened). Left (opened x.words x.handed d.totals)) (eqb (open_number (planned p) board p.workers) 0) _ _
+      (λ done.
+      record {
+        ready = λ none.
+            record {
+              few = few_le at next _ (omega (arith, n.0)) was.few;
+              all = length-replicate _ _ ∙ was.all;
+              past = rw was.all (idle_opened p.workers);
+            };
+        pays = omega (arith, n.0, idle);
       })
+      (λ some. record { ready = λ none. ready_le at next d (omega (arith, n.0)) was; pays = omega (arith, n.0) })
 
-  -- where a sheet stands, `total` being what all of it comes to: in the field at a place, whose turns are left from `turn` on to its end
-  pub record Standing (board out : List ℕ) (d : Desk) (written at turn end : ℕ) : Type 0 where
-    pub more : ℕ
-    pub so_far : List ℕ
-    pub lines : Wrote out₀ 0 so_far out written
-    pub same :
-        listed_first so_far
-        (after_field (fields_from more sheet) (length sheet) at end (turns_done (turns_from sheet end turn) (after board d)))
-        ≡ total
-    pub enough : length sheet < end + more
-    pub few : Few turn d.totals
-    pub room : 13 * due d written ≤ 37 * end
-    pub all : length d.records ≡ 64
-    pub past : IdleFrom d.floor.workers d.records
-    pub begun : at ≤ end
-    pub left : turn ≤ end
-    pub some : 1 ≤ end
-    pub inside : end ≤ length sheet
+  called_left : (c : Call) → read_field sheet at ≡ Whole (Calling c) next → Left (call_field c (after board d))
+  unfolding call_field
+  called_left c is =
+      let n = whole_next sheet at (Calling c) next is in
+      let long = whole_call sheet at c next is in
+      let x = asked board (seat_of d c.worker) (record_of d c.worker) c in
+      let more = busy_set_le d.records c.worker x.worker in
+      record {
+        ready = λ none.
+            let known = asked_known board (seat_of d c.worker) (record_of d c.worker) c none in
+            record {
+              few = few_le at next _ (omega (arith, n.0)) was.few;
+              all = simp length-set was.all;
+              past = rw (asked_workers board (seat_of d c.worker) (record_of d c.worker) c) (idle_set _ _ _ _ known.0 was.past);
+            };
+        pays = omega (arith, long, more);
+      }
 
-  module _ {board out : List ℕ} {d : Desk} {written at turn end : ℕ} (g : Standing board out d written at turn end) where
-    -- ---- a turn is left
+  turned_left : (span : Span) → read_field sheet at ≡ Whole (Turning span) next → Left (field_done sheet (Turning span) (after board d))
+  turned_left span is =
+      let n = whole_next sheet at (Turning span) next is in
+      let w = whole_turns sheet at span next is in
+      let long : length (turns_in sheet span) ≤ next - at = simp (length-take, length-drop) (omega (arith, w.0, w.1, w.2)) in
+      let pay = turns_pay (turns_in sheet span) board d at was (omega (arith, long, n.0, n.1, short)) in
+      record {
+        ready = λ none. ready_le _ next _ (omega (arith, long, n.0)) (turns_ready (turns_in sheet span) board d at was);
+        pays = omega (arith, pay, n.0);
+      }
 
+  field_left : (f : Field) → read_field sheet at ≡ Whole f next → Left (field_done sheet f (after board d))
+  field_left (Opening p) is = opened_left p is
+  field_left (Calling c) is = called_left c is
+  field_left (Turning span) is = turned_left span is
+
+-- ---- the last line
+
+-- a number of refusal is small
+pub number_small : (why : Refusal) → number_of why < 256
+number_small WrongSizes = omega arith
+number_small NoWorker = omega arith
+number_small BrokenRecord = omega arith
+number_small BusyWorker = omega arith
+number_small SpentTicket = omega arith
+number_small IdleWorker = omega arith
+number_small BrokenBucket = omega arith
+number_small Malformed = omega arith
+number_small TooLong = omega arith
+number_small NoSmallClass = omega arith
+number_small UntrueIndex = omega arith
+number_small NotAtRest = omega arith
+number_small CrowdedBucket = omega arith
+
+-- a refusal's is short
+refusal_long : (number offset : ℕ) → number < 256 → offset ≤ 16384 → length (refusal_line number offset) ≤ 26
+refusal_long number offset few short =
+    let a = decimal_long 3 number (omega arith) (omega arith) in
+    let b = decimal_long 5 offset (omega arith) (omega arith) in
+    simp length-append (omega (arith, a, b))
+
+-- and that of the totals
+totals_long : (t : Totals) → Few 16384 t → length (totals_line t) ≤ 26
+totals_long t few =
+    let a = decimal_long 5 t.turns (omega arith) (omega (arith, few.turns)) in
+    let b = decimal_long 5 t.changes (omega arith) (omega (arith, few.changes)) in
+    let c = decimal_long 5 t.lost (omega arith) (omega (arith, few.lost)) in
+    let d = decimal_long 5 t.full (omega arith) (omega (arith, few.full)) in
+    simp length-append (omega (arith, a, b, c, d))
+
+-- with it the listing is written whole, and there is room for it
+pub sheet_left :
+    (e : Ending) (pen mid last : Pen) (board : List ℕ) (t : Told) (r : Result Played Stopped)
+    → Stands e pen mid board t
+    → Writes mid t.lines last
+    → pen.at ≡ 0
+    → length pen.out.now ≡ longest
+    → written_of r ≡ last.at
+    → floor_of r ≡ t.desk.floor
+    → records_of r ≡ t.desk.records
+    → stop_of r ≡ t.stop
+    → Leaves e pen.out.now board last.out.now r × (written_of r ≤ longest)
+sheet_left e pen mid last board t r g tells first long at floor records stop =
+    let all = writes_puts (writes_then g.lines tells) in
+    let fits : length (g.so_far ++ t.lines) ≤ longest = rw length-append g.room in
+    let w = puts_all (rw first at all) (omega (arith, fits, long)) in (
+      rw (← g.same)
+          (record {
+            left = refl;
+            tells = record { lines = rw at w; floor = floor; records = records; stop = stop };
+          }),
+      omega (arith, at, w.place, fits),
+    )
+
+-- ---- where a sheet stands
+
+-- `total` being what all of it comes to: a field is to be read at a place
+pub record Standing (sheet : List ℕ) (total : Ending) (pen : Pen) (board : List ℕ) (d : Desk) (now : Pen) (at : ℕ) : Type 0 where
+  pub more : ℕ
+  pub so_far : List ℕ
+  pub lines : Writes pen so_far now
+  pub same : listed_first so_far (fields_from more sheet at (after board d)) ≡ total
+  pub enough : length sheet < at + more
+  pub ready : Ready at d
+  pub room : 13 * due d (length so_far) ≤ 37 * at
+  pub inside : at ≤ length sheet
+  pub short : length sheet ≤ 16384
+
+-- a sheet that is too long
+pub too_long_stands :
+    (sheet board : List ℕ) (pen : Pen) → 16384 < length sheet → Stands (played sheet board) pen pen board (told_refusal 9 0)
+unfolding played
+too_long_stands sheet board pen more =
+    let long = refusal_long 9 0 (omega arith) (omega arith) in
+    record { so_far = []; lines = writes_none pen; same = rw (lt-ltb 16384 (length sheet) more) refl; room = omega (arith, long) }
+
+-- no field is done yet
+pub standing_starts :
+    (sheet board : List ℕ) (pen : Pen) → length sheet ≤ 16384 → Standing sheet (played sheet board) pen board shut_desk pen 0
+unfolding played
+standing_starts sheet board pen short =
+    let none = busy_none 64 in
+    record {
+      more = suc (length sheet);
+      so_far = [];
+      lines = writes_none pen;
+      same = rw (le-ltb 16384 (length sheet) short) refl;
+      enough = omega arith;
+      ready =
+          record {
+            few = record { turns = omega arith; changes = omega arith; lost = omega arith; full = omega arith };
+            all = refl;
+            past = idle_opened 0;
+          };
+      room = omega (arith, none);
+      inside = omega arith;
+      short = short;
+    }
+
+module _
+    (sheet : List ℕ) (total : Ending) (pen : Pen) (board : List ℕ) (d : Desk) (now : Pen) (at : ℕ)
+    (g : Standing sheet total pen board d now at)
+  where
+    abbrev rest : ℕ → After Desk → Ending
+    rest = fields_from (g.more - 1) sheet
+
+    here : listed_first g.so_far (one_field rest sheet at (after board d) (read_field sheet at)) ≡ total
+    here =
+        let some : 1 ≤ g.more = omega (arith, g.enough, g.inside) in
+        ap (listed_first g.so_far) (sym (fields_here g.more sheet at (after board d) some)) ∙ g.same
+
+    -- it cannot be read
+    pub malformed : read_field sheet at ≡ Refused at → Stands total pen now board (told_refusal 8 at)
+    malformed is =
+        let long = refusal_long 8 at (omega arith) (omega (arith, g.inside, g.short)) in
+        record {
+          so_far = g.so_far;
+          lines = g.lines;
+          same = rw is at here;
+          room = omega (arith, long, g.room, g.inside, g.short);
+        }
+
+    -- it is this one, and came to this
     module _
-        (left : turn < end) {later page : List ℕ} {x : Desk} {next number : ℕ}
-        (did : Does (turn_at_desk (get_or sheet turn 0) (after board d)) out written page later x next number)
+        (f : Field) (next : ℕ) (is : read_field sheet at ≡ Whole f next) (later : Pen) (left : List ℕ) (x : Desk) (number : ℕ)
+        (did : Does (field_done sheet f (after board d)) now later left x number)
       where
         abbrev o : Outcome
-        o = turn_at_desk (get_or sheet turn 0) (after board d)
+        o = field_done sheet f (after board d)
 
-        abbrev others : After Desk → Outcome
-        others = turns_done (turns_from sheet end (turn + 1))
+        left_so : Left sheet at next board d g.ready g.short o
+        left_so = field_left sheet at next board d g.ready g.short f is
 
-        abbrev ends : Outcome → Ending
-        ends = after_field (fields_from g.more sheet) (length sheet) at end
+        there : listed_first g.so_far (after_field rest (length sheet) at next o) ≡ total
+        there = rw is at here
 
-        here : listed_first g.so_far (ends (and_then o others)) ≡ total
-        here = ap (λ (y : Outcome). listed_first g.so_far (ends y)) (sym (turns_here sheet end turn (after board d) left g.inside)) ∙ g.same
+        then_lines : Writes pen (g.so_far ++ o.lines) later
+        then_lines = writes_then g.lines did.lines
 
-        then_lines : Wrote out₀ 0 (g.so_far ++ o.lines) page next
-        then_lines = wrote_then g.lines did.lines
+        -- 37 bytes of listing for 13 of the sheet
+        pub room_next : 13 * due o.left.handed (length (g.so_far ++ o.lines)) ≤ 37 * next
+        room_next = rw length-append (omega (arith, left_so.pays, g.room))
 
         -- it was refused
-        pub turn_refused :
-            {last : List ℕ} {r : Played} → (number ≡ 0 → ⊥) → Tells (told_refusal number at) page next last r → Leaves total out₀ later last r
-        turn_refused some =
-            let isnot : o.stop ≡ 0 → ⊥ = λ none. some (did.stop ∙ none) in
-            let e =
-            ap (λ (s : After Desk). listed_first (g.so_far ++ o.lines) (refused number at s)) did.left
-            ∙ ap (λ (n : ℕ). listed_first (g.so_far ++ o.lines) (refused n at o.left)) did.stop
-            ∙ sym (first_first g.so_far o.lines (refused o.stop at o.left))
-            ∙ ap (listed_first g.so_far) (sym (after_refused (fields_from g.more sheet) (length sheet) at end o others isnot))
-            ∙ here in
-            last_told _ (told_refusal number at) later then_lines e
-
-        -- it was done
-        pub turn_next :
-            number ≡ 0
-            → length x.records ≡ 64
-            → IdleFrom x.floor.workers x.records
-            → due x next ≤ due d written
-            → Standing later page x next at (turn + 1) end
-        turn_next none all past less =
+        pub field_refused : (number ≡ 0 → ⊥) → number < 256 → Stands total pen later left (told_refusal number at)
+        field_refused some few =
+            let n = whole_next sheet at f next is in
+            let isnot : eqb o.stop 0 ≡ false = ne_eqb o.stop 0 (λ none. some (did.comes.stop ∙ none)) in
+            let long = refusal_long number at few (omega (arith, g.inside, g.short)) in
+            let room = room_next in
             record {
-              more = g.more;
               so_far = g.so_far ++ o.lines;
               lines = then_lines;
               same =
-                  ap (λ (s : After Desk). listed_first (g.so_far ++ o.lines) (ends (others s))) did.left
-                  ∙ sym (first_first g.so_far o.lines (ends (others o.left)))
-                  ∙ ap (listed_first g.so_far) (sym (after_done (fields_from g.more sheet) (length sheet) at end o others (sym did.stop ∙ none)))
-                  ∙ here;
-              enough = g.enough;
-              few = rw (ap (λ (s : After Desk). s.handed.totals) did.left) (few_turn turn (get_or sheet turn 0) (after board d) g.few);
-              room = (let was = g.room in omega arith);
-              all = all;
-              past = past;
-              begun = g.begun;
-              left = omega arith;
-              some = g.some;
-              inside = g.inside;
+                  rw (did.comes.words, did.comes.stop)
+                  (sym (first_first g.so_far o.lines (refused o.stop at o.left)) ∙ (rw isnot at there));
+              room = omega (arith, long, room, n.1, g.short);
             }
 
-    -- ---- no turn is left
+        -- it was done
+        module _ (none : number ≡ 0) where
+          done : eqb o.stop 0 ≡ true
+          done = eq-eqb o.stop 0 (sym did.comes.stop ∙ none)
 
-    module _ (none : end ≤ turn) where
-      abbrev s : After Desk
-      s = after board d
+          same_left : after left x ≡ o.left
+          same_left = λ i. record { words = did.comes.words i; handed = did.comes.desk none i }
 
-      ended : listed_first g.so_far (cond (eqb end (length sheet)) (over s) (fields_from g.more sheet end s)) ≡ total
-      ended = let last : turn ≡ end = omega (arith, g.left) in rw (last, turns_over sheet end s) at g.same
+          next_ready : Ready next x
+          next_ready = rw (did.comes.desk none) (left_so.ready (sym did.comes.stop ∙ none))
 
-      -- the sheet is over
-      pub sheet_over :
-          {last : List ℕ} {r : Played} → end ≡ length sheet → Tells (told_totals d) out written last r → Leaves total out₀ board last r
-      sheet_over is = last_told _ (told_totals d) board g.lines (rw (eq-eqb end (length sheet) is) at ended)
+          -- and the sheet is over
+          pub sheet_over : next ≡ length sheet → Stands total pen later left (told_totals x)
+          sheet_over last =
+              let ready = next_ready in
+              let long = totals_long x.totals (few_le next 16384 _ (omega (arith, last, g.short)) ready.few) in
+              let room = room_next in
+              record {
+                so_far = g.so_far ++ o.lines;
+                lines = then_lines;
+                same =
+                    ap (λ (s : After Desk). listed_first (g.so_far ++ o.lines) (over s)) same_left
+                    ∙ sym (first_first g.so_far o.lines (over o.left))
+                    ∙ (rw (done, eq-eqb next (length sheet) last) at there);
+                room = omega (arith, long, room, last, g.short);
+              }
 
-      -- there is another field
-      module _ (other : end ≡ length sheet → ⊥) where
-        abbrev rest : ℕ → After Desk → Ending
-        rest = fields_from (g.more - 1) sheet
-
-        field_here : listed_first g.so_far (one_field rest sheet end s (read_field sheet end)) ≡ total
-        field_here =
-            let some : 1 ≤ g.more = omega (arith, g.enough, g.inside) in
-            ap (listed_first g.so_far) (sym (fields_here g.more sheet end s some)) ∙ (rw (ne_eqb end (length sheet) other) at ended)
-
-        -- it is malformed
-        pub malformed :
-            (place : ℕ) {last : List ℕ} {r : Played}
-            → read_field sheet end ≡ Refused place
-            → Tells (told_refusal 8 place) out written last r
-            → Leaves total out₀ board last r
-        malformed place is = last_told _ (told_refusal 8 place) board g.lines (rw is at field_here)
-
-        -- it is no floor
-        pub no_floor : (p : Plan) (next : ℕ) → read_field sheet end ≡ Whole (Opening p) next → ⊥
-        no_floor p next is = let first = later_field sheet end p next is in omega (arith, first, g.some)
-
-        -- it is a call, for which the engine started this
-        module _
-            (c : Call) (next : ℕ) (is : read_field sheet end ≡ Whole (Calling c) next) (x : Started)
-            (was : x ≡ asked board (seat_of d c.worker) (record_of d c.worker) c)
-          where
-            abbrev started : Desk
-            started = desk_of x.floor (set d.records c.worker x.worker) d.totals
-
-            called : listed_first g.so_far (after_field rest (length sheet) end next (outcome [] (after board started) x.refusal)) ≡ total
-            unfolding call_field
-            called = rw was (rw is at field_here)
-
-            -- it was refused
-            pub call_refused :
-                {last : List ℕ} {r : Played}
-                → (x.refusal ≡ 0 → ⊥)
-                → Tells (told_refusal x.refusal end) out written last r
-                → Leaves total out₀ board last r
-            call_refused some = last_told _ (told_refusal x.refusal end) board g.lines (rw (ne_eqb x.refusal 0 some) at called)
-
-            -- 37 bytes of listing for 13 of the sheet, which is the least that a call takes
-            room_next : 13 * due started written ≤ 37 * next
-            room_next =
-                let long = whole_call sheet end c next is in
-                let more = busy_set_le d.records c.worker x.worker in
-                omega (arith, long, more, g.room)
-
-            -- the worker that is started is one of the floor's, which stay as many
-            past_next : x.refusal ≡ 0 → IdleFrom x.floor.workers started.records
-            past_next accepted =
-                let seat = seat_of d c.worker in
-                let w = record_of d c.worker in
-                let known = asked_known board seat w c (sym (ap (λ (x : Started). x.refusal) was) ∙ accepted) in
-                rw (was, asked_workers board seat w c) (idle_set _ _ _ _ known.0 g.past)
-
-            -- it was done
-            pub call_next : x.refusal ≡ 0 → Standing board out started written end next next
-            call_next accepted =
-                let n = whole_next sheet end (Calling c) next is in
-                record {
-                  more = g.more - 1;
-                  so_far = g.so_far;
-                  lines = g.lines;
-                  same = rw (turns_over sheet next (after board started)) (rw (eq-eqb x.refusal 0 accepted) at called);
-                  enough = (let e = g.enough in omega (arith, n.0));
-                  few = few_le turn next _ (omega (arith, n.0, g.left)) g.few;
-                  room = room_next;
-                  all = simp length-set g.all;
-                  past = past_next accepted;
-                  begun = omega (arith, n.0);
-                  left = omega arith;
-                  some = omega (arith, n.0);
-                  inside = n.1;
-                }
-
-        -- it has turns
-        pub turns_next : (span : Span) (next : ℕ) → read_field sheet end ≡ Whole (Turning span) next → Standing board out d written end span.start next
-        turns_next span next is =
-            let n = whole_next sheet end (Turning span) next is in
-            let w = whole_turns sheet end span next is in
-            record {
-              more = g.more - 1;
-              so_far = g.so_far;
-              lines = g.lines;
-              same = rw w.1 at (rw is at field_here);
-              enough = (let e = g.enough in omega (arith, n.0));
-              few = few_le turn span.start _ (omega (arith, w.0, g.left)) g.few;
-              room = (let was = g.room in omega (arith, n.0));
-              all = g.all;
-              past = g.past;
-              begun = omega (arith, n.0);
-              left = omega (arith, w.1, w.2);
-              some = omega (arith, n.0);
-              inside = n.1;
-            }
-
--- ---- the first field
-
-module _ (sheet board : List ℕ) where
-  abbrev s₀ : After Desk
-  s₀ = after board shut_desk
-
-  abbrev later_fields : ℕ → After Desk → Ending
-  later_fields = fields_from (length sheet) sheet
-
-  abbrev whole : Ending
-  whole = fields_from (length sheet + 1) sheet 0 s₀
-
-  first_here : one_field later_fields sheet 0 s₀ (read_field sheet 0) ≡ whole
-  unfolding fields_from
-  first_here = rw (add-one (length sheet))
-
-  -- it is malformed
-  pub first_malformed :
-      (place : ℕ) {out last : List ℕ} {r : Played}
-      → read_field sheet 0 ≡ Refused place
-      → Tells (told_refusal 8 place) out 0 last r
-      → Leaves whole out board last r
-  first_malformed place is tells = rw (← first_here, is) (record { left = refl; tells = tells })
-
-  -- it is a floor, for which the engine laid out this
-  module _
-      (p : Plan) (next : ℕ) (is : read_field sheet 0 ≡ Whole (Opening p) next) (later : List ℕ) (l : Laid)
-      (was : after later l ≡ lay_call board shut_floor p.workers p)
-    where
-      opened_here : after_field later_fields (length sheet) 0 next (open_field p s₀) ≡ whole
-      opened_here = rw is at first_here
-
-      -- it was refused
-      pub first_refused :
-          {out last : List ℕ} {r : Played}
-          → (l.refusal ≡ 0 → ⊥)
-          → Tells (told_refusal l.refusal 0) out 0 last r
-          → Leaves whole out later last r
-      first_refused some tells =
-          let e = rw (← laid_refused p s₀ later l was some, ne_eqb l.refusal 0 some) at opened_here in
-          rw (← e) (record { left = refl; tells = tells })
-
-      -- it was done
-      pub first_done : l.refusal ≡ 0 → after_field later_fields (length sheet) 0 next (outcome [] (after later (opened_desk l.floor)) 0) ≡ whole
-      first_done none = rw (← laid_done p s₀ later l was none refl) at opened_here
-
-  -- no later field is done yet
-  pub standing_starts :
-      (f : Floor) (out : List ℕ) (first : ℕ)
-      → 1 ≤ first
-      → first ≤ length sheet
-      → Standing sheet (after_field later_fields (length sheet) 0 first (outcome [] (after board (opened_desk f)) 0)) out board out (opened_desk f) 0 0
-      first first
-  standing_starts f out first some inside =
-      let none = busy_none 64 in
-      record {
-        more = length sheet;
-        so_far = [];
-        lines = wrote_none out 0;
-        same = rw (turns_over sheet first (after board (opened_desk f)));
-        enough = omega arith;
-        few = record { turns = omega arith; changes = omega arith; lost = omega arith; full = omega arith };
-        room = omega (arith, none);
-        all = refl;
-        past = idle_opened f.workers;
-        begun = omega arith;
-        left = omega arith;
-        some = some;
-        inside = inside;
-      }
+          -- and there is another
+          pub field_next : (next ≡ length sheet → ⊥) → Standing sheet total pen left x later next
+          field_next other =
+              let n = whole_next sheet at f next is in
+              let room = room_next in
+              record {
+                more = g.more - 1;
+                so_far = g.so_far ++ o.lines;
+                lines = then_lines;
+                same =
+                    ap (λ (s : After Desk). listed_first (g.so_far ++ o.lines) (rest next s)) same_left
+                    ∙ sym (first_first g.so_far o.lines (rest next o.left))
+                    ∙ (rw (done, ne_eqb next (length sheet) other) at there);
+                enough = (let e = g.enough in omega (arith, n.0));
+                ready = next_ready;
+                room = rw (did.comes.desk none) room;
+                inside = n.1;
+                short = g.short;
+              }

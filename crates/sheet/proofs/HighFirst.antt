@@ -1,16 +1,27 @@
 -- Numbers of so many bytes, high byte first: the next byte, and how large they get. Assumes nothing.
-use Prim.Native.Nat.{ℕ, zero, suc, ◌+◌, ◌*◌, ◌^◌, ◌≤◌, ◌<◌}
-use mathlib.Core.Path.{◌≡◌}
+use Prim.Native.Nat.{ℕ, zero, suc, ◌+◌, ◌-◌, ◌*◌, ◌^◌, ◌≤◌, ◌<◌}
+use mathlib.Core.Path.{◌≡◌, ◌∙◌}
 use mathlib.Core.List.{List}
 use native.Mathlib.Nat.{pow-suc, pow-le-pow_right}
 use native.Mathlib.Numerals.{add-one}
 use native.Mathlib.Omega.{arith}
+use lib.ListN.{length, get_or, take, drop, length-take}
+use Rattle.std.proofs.lemmas.List.{get_or-take, get_or-drop}
 use Rattle.sheet.specs.Fields.{byte_at, Bytes, number_at}
 
 -- one byte more
 pub number_next : (sheet : List ℕ) (at i : ℕ) → 256 * number_at sheet at i + byte_at sheet (at + i) ≡ number_at sheet at (i + 1)
 unfolding number_at
 number_next sheet at i = rw add-one
+
+-- the byte at a place of a part
+pub part_byte : (sheet : List ℕ) (at n i : ℕ) → i < length (take (at + n - at) (drop at sheet)) → get_or (take (at + n - at) (drop at sheet)) i 0 ≡ byte_at sheet (at + i)
+part_byte sheet at n i inside =
+    get_or-take (at + n - at) (drop at sheet) i 0 (let e = rw length-take at inside in omega (arith, e)) ∙ get_or-drop at sheet i 0
+
+-- there are no more of them than it has
+pub part_short : (sheet : List ℕ) (at n i : ℕ) → i < length (take (at + n - at) (drop at sheet)) → i < n
+part_short sheet at n i inside = let e = rw length-take at inside in omega (arith, e)
 
 module _ (i n : ℕ) (small : n < 256 ^ i) where
   -- a number with one byte more has one byte more of room

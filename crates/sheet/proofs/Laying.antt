@@ -8,13 +8,19 @@ use lib.Dec.{eqb}
 use lib.ListN.{length, replicate}
 use borrow.Author.Tests.{eqb-true, eq-eqb, ne_eqb}
 use Rattle.mark.proofs.Choices.{by_cases}
+use Rattle.std.specs.Prelude.{Result, Ok, Err}
+use Rattle.turn.specs.declared.refusal.Refusal.{Refusal}
+use Rattle.turn.specs.Number.{number as number_of}
+use Rattle.turn.proofs.Refusing.{number_some}
+use Rattle.engine.specs.declared.Floor.{Floor}
 use Rattle.turn.specs.Worker.{idle}
 use Rattle.turn.specs.Turn.{After, after}
 use Rattle.engine.specs.declared.Plan.{Plan}
 use Rattle.engine.specs.Calls.{Laid}
 use Rattle.engine.specs.Refusals.{open_number}
-use Rattle.engine.specs.Calls.{Opened, planned, open_call, lay_call}
+use Rattle.engine.specs.Calls.{Opened, planned, open_call, laid_as, lay_call}
 use Rattle.sheet.specs.Play.{Desk, desk_of, outcome, open_field}
+use Rattle.sheet.specs.Promises.{Comes}
 
 module _
     (p : Plan) (s : After Desk) (later : List ℕ) (l : Laid)
@@ -47,3 +53,19 @@ module _
         let is : eqb number 0 ≡ true = eq-eqb number 0 (sym laid_number ∙ none) in
         rw (is, all)
         (ap (λ (x : After Laid). outcome [] (after x.words (desk_of x.handed.floor (replicate 64 idle) s.handed.totals)) 0) (rw is at whole))
+
+-- so it is with what the engine answers
+module _
+    (p : Plan) (board later : List ℕ) (d : Desk) (r : Result Floor Refusal)
+    (whole : after later (laid_as d.floor p.workers r) ≡ lay_call board d.floor p.workers p)
+  where
+    pub open_refused : (why : Refusal) → r ≡ Err why → Comes (open_field p (after board d)) later d (number_of why)
+    open_refused why is =
+        let refused = rw is at (laid_refused p (after board d) later (laid_as d.floor p.workers r) whole) in
+        rw (← refused (number_some why)) (record { words = refl; stop = refl; desk = λ none. refl })
+
+    pub open_done :
+        (f : Floor) → r ≡ Ok f → length d.records ≡ 64 → Comes (open_field p (after board d)) later (desk_of f (replicate 64 idle) d.totals) 0
+    open_done f is all =
+        let done = rw is at (laid_done p (after board d) later (laid_as d.floor p.workers r) whole) in
+        rw (← done refl all) (record { words = refl; stop = refl; desk = λ none. refl })

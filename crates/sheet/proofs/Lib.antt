@@ -6,6 +6,7 @@ pub mod FieldByField
 pub mod FieldIsRun
 pub mod Fielding
 pub mod Fitting
+pub mod Going
 pub mod HighFirst
 pub mod Keyed
 pub mod LastLine

@@ -6,6 +6,8 @@ use Rattle.turn.specs.declared.Progress.{Progress}
 use Rattle.turn.specs.declared.Progress.TheVariants.{GoesOn, Ended}
 use Rattle.turn.specs.Worker.{look_kind, insert_kind, idle}
 use Rattle.turn.specs.Turn.{Answer, Refused, Done, Turned, After, after}
+use Rattle.engine.specs.declared.Asked.{Asked}
+use Rattle.engine.specs.declared.Asked.TheVariants.{Look, Insert, Remove}
 use Rattle.engine.specs.declared.Floor.{Floor}
 use Rattle.engine.specs.declared.Plan.{Plan}
 use Rattle.engine.specs.declared.Seat.{Seat}
@@ -13,16 +15,11 @@ use Rattle.engine.specs.Calls.{Started}
 use Rattle.engine.specs.declared.Totals.{Totals}
 use Rattle.engine.specs.Calls.{Opened, open_call, look_call, insert_call, remove_call, turn_call, tallied, no_turns, record_in, after_turn}
 use Rattle.sheet.specs.declared.Call.{Call}
+pub use Rattle.sheet.specs.declared.Desk.{Desk}
 use Rattle.sheet.specs.declared.Span.{Span}
 use Rattle.sheet.specs.declared.Field.{Field}
 use Rattle.sheet.specs.declared.Field.TheVariants.{Opening, Calling, Turning}
 use Rattle.sheet.specs.Line.{end_line}
-
--- what the fields done so far have left, beside the board
-pub record Desk : Type 0 where
-  pub floor : Floor
-  pub records : List Worker
-  pub totals : Totals
 
 -- the desk with this floor, these records and these totals
 abbrev pub desk_of : Floor → List Worker → Totals → Desk
@@ -75,6 +72,10 @@ open_field p s =
     opened x.words x.handed s.handed.totals
 
 -- ---- call
+
+-- what a call asks of the engine, by its kind
+abbrev pub asked_of : Call → Asked
+asked_of c = cond (eqb c.kind look_kind) (Look c.lot) (cond (eqb c.kind insert_kind) (Insert (record { lot = c.lot; ticket = c.ticket })) (Remove c.lot))
 
 -- §3.4, §8.3: a call is the engine's start of its kind
 unfoldable pub asked : List ℕ → Seat → Worker → Call → Started

@@ -1,55 +1,78 @@
 -- What the public functions promise (§12.1), the program's `listed`, and of the private ones those whose promise has several parts.
-use Rattle.std.specs.Prelude.{ℕ, ◌≤◌, ◌<◌, cond, ◌≡◌, List, length, eqb}
+use Rattle.std.specs.Prelude.{ℕ, ◌+◌, ◌≤◌, ◌≡◌, Result, Ok, Err, List, length, replicate}
 use Rattle.turn.specs.declared.Worker.{Worker}
+use Rattle.turn.specs.Number.{number}
+use Rattle.turn.specs.Worker.{idle}
 use Rattle.turn.specs.Turn.{after}
 use Rattle.engine.specs.declared.Floor.{Floor}
-use Rattle.engine.specs.declared.Totals.{Totals}
-use Rattle.engine.specs.Calls.{record_in, after_turn}
-use Rattle.sheet.specs.declared.Took.{Took}
+use Rattle.pen.specs.declared.Pen.{Pen}
+use Rattle.pen.specs.Written.{Writes}
+use Rattle.sheet.specs.declared.Stop.{Stop}
 use Rattle.sheet.specs.declared.Played.{Played}
-use Rattle.sheet.specs.Play.{Desk, desk_of, Outcome, turn_at_desk}
-use Rattle.sheet.specs.Listing.{Told, Ending, played, words_asked, listing}
+use Rattle.sheet.specs.declared.Stopped.{Stopped}
+use Rattle.sheet.specs.Play.{Desk, shut_floor, Outcome}
+use Rattle.sheet.specs.Listing.{Told, Ending, told_refusal, told_totals, listed_first, played, words_asked, listing}
 use Rattle.sheet.specs.Written.{Wrote}
-use Rattle.sheet.specs.Room.{longest, due}
+use Rattle.sheet.specs.Room.{longest}
 
--- a turn at the desk: the buffer before and after, the board and the desk that are left, the length of the listing, and the number
-pub record Does (o : Outcome) (out : List ℕ) (written : ℕ) (later board : List ℕ) (d : Desk) (next number : ℕ) : Type 0 where
-  pub lines : Wrote out written o.lines later next
-  pub left : after board d ≡ o.left
+-- what something at the desk comes to, beside its lines: this board and this number, and this desk if it was not refused
+pub record Comes (o : Outcome) (board : List ℕ) (d : Desk) (number : ℕ) : Type 0 where
+  pub words : board ≡ o.left.words
   pub stop : number ≡ o.stop
+  pub desk : number ≡ 0 → d ≡ o.left.handed
 
--- §20.2: the desk with the record that a turn of worker i hands back, and the others as they sleep through it; one that is refused
--- leaves the records
-abbrev pub put_back : Floor → List Worker → ℕ → Took → Desk
-put_back f ws i t = desk_of f (cond (eqb t.stop 0) (after_turn ws i t.worker) ws) t.totals
+-- the same with its lines: the pen before and after
+pub record Does (o : Outcome) (pen later : Pen) (board : List ℕ) (d : Desk) (number : ℕ) : Type 0 where
+  pub lines : Writes pen o.lines later
+  pub comes : Comes o board d number
 
--- one turn of worker i with record w, whatever the other records are: the buffer before and after, the board that is left, and what is
--- handed back; where it is done its worker is one of the floor's, which are 64 at most, and it makes no more lines due
-pub record Takes (board : List ℕ) (f : Floor) (i : ℕ) (w : Worker) (t : Totals) (out : List ℕ) (written : ℕ) (later left : List ℕ) (r : Took) :
-    Type 0 where
-  pub does :
-      (ws : List Worker)
-      → record_in ws i ≡ w
-      → Does (turn_at_desk i (after board (desk_of f ws t))) out written later left (put_back f ws i r) r.written r.stop
-  pub known : r.stop ≡ 0 → (i < f.workers) × (f.workers ≤ 64)
-  pub less : (ws : List Worker) → record_in ws i ≡ w → length ws ≡ 64 → due (put_back f ws i r) r.written ≤ due (desk_of f ws t) written
+-- the last line of a sheet, and the desk from which it can go on
+abbrev pub told_by : Desk → Result Unit Stop → Told
+told_by d (Ok done) = told_totals d
+told_by d (Err stop) = told_refusal (number stop.why) stop.offset
+
+-- a sheet whose last line is to come: the pen before and after, the board, and what is told with that line; and there is room for all of it
+pub record Stands (e : Ending) (pen later : Pen) (board : List ℕ) (t : Told) : Type 0 where
+  pub so_far : List ℕ
+  pub lines : Writes pen so_far later
+  pub same : listed_first so_far (after board t) ≡ e
+  pub room : length so_far + length t.lines ≤ longest
+
+-- ---- what a sheet hands back: of one that is refused it is known that its desk is shut
+
+abbrev pub floor_of : Result Played Stopped → Floor
+floor_of (Ok p) = p.floor
+floor_of (Err s) = shut_floor
+
+abbrev pub records_of : Result Played Stopped → List Worker
+records_of (Ok p) = p.records
+records_of (Err s) = replicate 64 idle
+
+abbrev pub written_of : Result Played Stopped → ℕ
+written_of (Ok p) = p.written
+written_of (Err s) = s.written
+
+-- the number that refused it, or 0
+abbrev pub stop_of : Result Played Stopped → ℕ
+stop_of (Ok p) = 0
+stop_of (Err s) = number s.why
 
 -- what is told was written from a place on: the buffer before and after, and the desk and the number that are handed back with it
-pub record Tells (t : Told) (out : List ℕ) (at : ℕ) (later : List ℕ) (r : Played) : Type 0 where
-  pub lines : Wrote out at t.lines later r.written
-  pub floor : r.floor ≡ t.desk.floor
-  pub records : r.records ≡ t.desk.records
-  pub stop : r.stop ≡ t.stop
+pub record Tells (t : Told) (out : List ℕ) (at : ℕ) (later : List ℕ) (r : Result Played Stopped) : Type 0 where
+  pub lines : Wrote out at t.lines later (written_of r)
+  pub floor : floor_of r ≡ t.desk.floor
+  pub records : records_of r ≡ t.desk.records
+  pub stop : stop_of r ≡ t.stop
 
 -- what a sheet comes to: the buffer before, and the board, the buffer and what is handed back after
-pub record Leaves (e : Ending) (out board later : List ℕ) (r : Played) : Type 0 where
+pub record Leaves (e : Ending) (out board later : List ℕ) (r : Result Played Stopped) : Type 0 where
   pub left : board ≡ e.words
   pub tells : Tells e.handed out 0 later r
 
 -- a sheet on a lent board: what it comes to, and no more than the buffer holds
-pub record SheetPlayed (sheet board out board' later : List ℕ) (r : Played) : Type 0 where
+pub record SheetPlayed (sheet board out board' later : List ℕ) (r : Result Played Stopped) : Type 0 where
   pub whole : Leaves (played sheet board) out board' later r
-  pub fits : r.written ≤ longest
+  pub fits : written_of r ≤ longest
 
 -- the listing that a sheet comes to: the buffer before, and the board, the buffer and the length of the listing after
 pub record Listed (e : Ending) (out board later : List ℕ) (r : ℕ) : Type 0 where

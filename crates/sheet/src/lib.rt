@@ -1,19 +1,19 @@
 // A sheet, field by field, and the listing that it comes to.
 #![tactic(auto)]
 
-ghost use Rattle.std.specs.Prelude.{◌≡◌, [], ◌+◌, ◌≤◌, length};
-ghost use Rattle.turn.specs.Turn.{after};
-ghost use Rattle.sheet.specs.Play.{shut_floor, shut_desk, opened_desk, outcome};
-ghost use Rattle.sheet.specs.Listing.{told_refusal, after_field, fields_from};
-ghost use Rattle.sheet.specs.Room.{longest, LaterFit};
-ghost use Rattle.sheet.specs.Promises.{Tells, Leaves, SheetPlayed, SheetListed, BoardAsked};
+ghost use Rattle.std.specs.Prelude.{◌≡◌};
+ghost use Rattle.sheet.specs.Play.{shut_desk};
+ghost use Rattle.sheet.specs.Listing.{played};
+ghost use Rattle.sheet.specs.Promises.{told_by, Stands, SheetPlayed, SheetListed, BoardAsked};
 
-use engine::{Floor, Plan, Totals, tally};
-use turn::{Worker, record, refusal, sleep};
+use engine::{Floor, Plan, Totals};
+use pen::Pen;
+use turn::Worker;
+use turn::refusal::Refusal;
 
 pub mod reading; // the fields of the sheet
 mod line; // a line of the listing
-mod play; // a start and a turn of one worker
+mod play; // the desk, and what a field does there
 
 pub use play::start;
 
@@ -25,7 +25,7 @@ pub const LIMIT: usize = 16384;
 pub const ROOM: usize = 37 * LIMIT / 13 + 26;
 
 // A call that a sheet asks for.
-#[derive(Clone, Copy)]
+#[derive(Clone, Copy, Debug, PartialEq, Eq, Hash)]
 pub struct Call {
     pub lot: u64,
     pub ticket: u64,
@@ -34,13 +34,13 @@ pub struct Call {
 }
 
 // Where the turns of a field stand in the sheet.
-#[derive(Clone, Copy)]
+#[derive(Clone, Copy, Debug, PartialEq, Eq, Hash)]
 pub struct Span {
     pub start: usize,
     pub end: usize,
 }
 
-#[derive(Clone, Copy)]
+#[derive(Clone, Copy, Debug, PartialEq, Eq, Hash)]
 pub enum Field {
     Opening(Plan),
     Calling(Call),
@@ -48,29 +48,40 @@ pub enum Field {
 }
 
 // §8.5: a field that was read, and the place after it.
-#[derive(Clone, Copy)]
+#[derive(Clone, Copy, Debug, PartialEq, Eq, Hash)]
 pub struct Found {
     pub field: Field,
     pub next: usize,
 }
 
-// Where a sheet leaves the desk: the records and the floor from which it can go on, those of a shut desk where it was refused; how long
-// the listing is; and the number that refused it, or 0.
-#[derive(Clone, Copy)]
+// Where a sheet leaves the desk: the records and the floor from which it can go on; and how long the listing is.
+#[derive(Clone, Copy, Debug, PartialEq, Eq, Hash)]
 pub struct Played {
     pub records: [Worker; 64],
     pub floor: Floor,
     pub written: usize,
-    pub stop: u8,
 }
 
-// What a turn has left of its worker's record and of the totals, how long the listing is, and the number that refused it, or 0.
-#[derive(Clone, Copy)]
-struct Took {
-    pub worker: Worker,
-    pub totals: Totals,
+// Why a sheet was refused, and how long the listing is. The desk is shut then.
+#[derive(Clone, Copy, Debug, PartialEq, Eq, Hash)]
+pub struct Stopped {
+    pub why: Refusal,
     pub written: usize,
-    pub stop: u8,
+}
+
+// What the fields done so far have left, beside the board. Its records stay in one place while a sheet is played.
+#[derive(Clone, Copy, Debug, PartialEq, Eq, Hash)]
+struct Desk {
+    pub floor: Floor,
+    pub records: [Worker; 64],
+    pub totals: Totals,
+}
+
+// Why a sheet is refused, and where its last line says so.
+#[derive(Clone, Copy, Debug, PartialEq, Eq, Hash)]
+struct Stop {
+    why: Refusal,
+    offset: usize,
 }
 
 // §2.2: how many words of a board the sheet's floor asks for.
@@ -78,13 +89,10 @@ struct Took {
 pub fn words(sheet: &[u8]) -> usize
     ensures { BoardAsked sheet.now result }
 {
-    let Some(
-        Found {
-            field: Field::Opening(plan),
-            ..
-        },
-    ) = reading::read(sheet, 0)
-    else {
+    let Some(found) = reading::read(sheet, 0) else {
+        return 0;
+    };
+    let Field::Opening(plan) = found.field else {
         return 0;
     };
     if plan.buckets <= 256 {
@@ -97,159 +105,63 @@ pub fn words(sheet: &[u8]) -> usize
 pub fn list(sheet: &[u8], board: &mut [u64], out: &mut [u8; ROOM]) -> usize
     ensures { SheetListed sheet.now board.old out.old board.new out.new result }
 {
-    let played = stand(sheet, board, out);
-    played.written
+    match stand(sheet, board, out) {
+        Ok(played) => played.written,
+        Err(stopped) => stopped.written,
+    }
 }
 
 // §8.6, §18.7: plays a sheet so, and hands back where it leaves the desk.
-pub fn stand(sheet: &[u8], board: &mut [u64], out: &mut [u8; ROOM]) -> Played
+pub fn stand(sheet: &[u8], board: &mut [u64], out: &mut [u8; ROOM]) -> Result<Played, Stopped>
     ensures { SheetPlayed sheet.now board.old out.old board.new out.new result }
 {
-    if sheet.len() > LIMIT {
-        return refused(out, 0, refusal::TOO_LONG, 0);
-    }
-    fields(sheet, board, out)
-}
-
-// No floor is open.
-fn shut() -> Floor
-    ensures { result ≡ shut_floor }
-{
-    Floor {
-        workers: 0,
-        buckets: 0,
-        last: 0,
-        version: 0,
-        spare: 0,
-    }
-}
-
-// §9.3: a refusal is the last line.
-fn refused(out: &mut [u8], at: usize, why: u8, offset: usize) -> Played
-    requires { (offset ≤ 16384) × (at + 12 ≤ length out.old) }
-    ensures { Tells (told_refusal why offset) out.old at out.new result }
-{
-    let idle = record::idle();
-    let records = [idle; 64];
-    let floor = shut();
-    let written = line::refused(out, at, why, offset);
-    Played {
-        records,
-        floor,
-        written,
-        stop: why,
-    }
-}
-
-// §14.6: the first field, and then the others.
-fn fields(sheet: &[u8], board: &mut [u64], out: &mut [u8]) -> Played
-    requires { (length sheet.now ≤ 16384) × (length out.old ≡ longest) }
-    ensures { Leaves (fields_from (length sheet.now + 1) sheet.now 0 (after board.old shut_desk))
-        out.old board.new out.new result }
-{
-    let Some(found) = reading::read(sheet, 0) else {
-        return refused(out, 0, refusal::MALFORMED, 0);
-    };
-    // never: the reading refuses any other first field
-    let Field::Opening(plan) = found.field else {
-        return refused(out, 0, refusal::MALFORMED, 0);
-    };
-    let laid = engine::open_floor(board, shut(), plan.workers, plan);
-    if laid.refusal != 0 {
-        return refused(out, 0, laid.refusal, 0);
-    }
-    let floor = laid.floor;
-    later_fields(sheet, board, out, floor, found.next)
-}
-
-// §14.6: the fields after the first, which ends at a place. The records stay here till the end: a start and a turn are given their worker's
-// alone, so that no array is copied on the way. A field's turns are those from `turn` on to `end`.
-fn later_fields(
-    sheet: &[u8],
-    board: &mut [u64],
-    out: &mut [u8],
-    opened: Floor,
-    first: usize,
-) -> Played
-    requires { LaterFit sheet.now (length out.old) first }
-    ensures { Leaves (after_field (fields_from (length sheet.now) sheet.now) (length sheet.now) 0 first
-        (outcome [] (after board.old (opened_desk opened)) 0)) out.old board.new out.new result }
-{
-    let idle = record::idle();
-    let mut records = [idle; 64];
-    let mut floor = opened;
-    let mut totals = tally::nothing();
-    let mut written = 0;
-    let mut at = 0;
-    let mut turn = first;
-    let mut end = first;
-    loop {
-        if turn < end {
-            let worker = sheet[turn];
-            let i = worker as usize;
-            let mut w = engine::blank();
-            if i < 64 {
-                w = records[i];
-            }
-            let took = play::turn(board, floor, worker, w, totals, out, written);
-            if took.stop != 0 {
-                return refused(out, took.written, took.stop, at);
-            }
-            // §20.2: the floor's workers sleep through it, past whom nobody is busy; its own worker's record is put back after that
-            let mut k = 0;
-            while k < floor.workers {
-                let sleeper = records[k];
-                let slept = sleep::slept(sleeper);
-                records[k] = slept;
-                k += 1;
-            }
-            let left = took.worker;
-            records[i] = left;
-            totals = took.totals;
-            written = took.written;
-            turn += 1;
-            continue;
-        }
-        if end == sheet.len() {
-            let after = line::totals(out, written, totals);
-            return Played {
+    let mut desk = Desk::shut();
+    let mut pen = Pen { out, at: 0 };
+    match fields(sheet, board, &mut desk, &mut pen) {
+        Ok(()) => {
+            line::totals(&mut pen, desk.totals);
+            let records = desk.records;
+            Ok(Played {
                 records,
-                floor,
-                written: after,
-                stop: 0,
-            };
+                floor: desk.floor,
+                written: pen.at,
+            })
         }
-        at = end;
+        Err(stop) => {
+            line::refused(&mut pen, stop.why, stop.offset);
+            Err(Stopped {
+                why: stop.why,
+                written: pen.at,
+            })
+        }
+    }
+}
+
+// §6.9, §14.6: field after field, from a shut desk. All that is listed of them is written but the last line.
+fn fields(sheet: &[u8], board: &mut [u64], desk: &mut Desk, pen: &mut Pen<'_>) -> Result<(), Stop>
+    requires { desk.old ≡ shut_desk }
+    ensures { Stands (played sheet.now board.old) pen.old pen.new board.new (told_by desk.new result) }
+{
+    if sheet.len() > LIMIT {
+        return Err(Stop {
+            why: Refusal::TooLong,
+            offset: 0,
+        });
+    }
+    let mut at = 0;
+    loop {
         let Some(found) = reading::read(sheet, at) else {
-            return refused(out, written, refusal::MALFORMED, at);
+            return Err(Stop {
+                why: Refusal::Malformed,
+                offset: at,
+            });
         };
-        end = found.next;
-        match found.field {
-            // never: the reading refuses a later floor
-            Field::Opening(_) => {
-                return refused(out, written, refusal::MALFORMED, at);
-            }
-            Field::Calling(call) => {
-                let i = call.worker as usize;
-                let mut w = engine::blank();
-                if i < 64 {
-                    w = records[i];
-                }
-                let started = play::start(board, floor, w, call);
-                if started.refusal != 0 {
-                    return refused(out, written, started.refusal, at);
-                }
-                let left = started.worker;
-                records[i] = left;
-                let spent = started.floor;
-                floor = spent;
-                turn = end;
-                continue;
-            }
-            Field::Turning(span) => {
-                turn = span.start;
-                continue;
-            }
+        if let Err(why) = desk.field(sheet, board, found, pen) {
+            return Err(Stop { why, offset: at });
         }
+        if found.next == sheet.len() {
+            return Ok(());
+        }
+        at = found.next;
     }
 }

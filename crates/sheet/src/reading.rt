@@ -21,10 +21,8 @@ fn number(sheet: &[u8], at: usize, bytes: usize) -> u64
     ensures { (result ≡ number_at sheet.now at bytes) × (result < 256 ^ bytes) }
 {
     let mut n = 0;
-    let mut i = 0;
-    while i < bytes {
-        n = 256 * n + sheet[at + i] as u64;
-        i += 1;
+    for &byte in &sheet[at..at + bytes] {
+        n = 256 * n + u64::from(byte);
     }
     n
 }
@@ -39,7 +37,7 @@ fn opening(sheet: &[u8], at: usize, length: usize) -> Option<Found>
         return None;
     }
     let plan = Plan {
-        workers: sheet[at + 3] as usize,
+        workers: usize::from(sheet[at + 3]),
         buckets: number(sheet, at + 4, 2) as usize,
         version: number(sheet, at + 6, 4) as u32,
     };

@@ -1,27 +1,39 @@
--- The first field is a floor, or the sheet is refused; the others come after it.
 use Rattle.std.proofs.Common.{arith, refl}
-use Rattle.sheet.proofs.Fielding.{found_here, none_here, first_field, whole_next}
-use Rattle.sheet.proofs.FieldByField.{first_malformed, first_refused, first_done}
+use Rattle.turn.proofs.Refusing.{number_some}
+use Rattle.sheet.proofs.Fielding.{found_here, none_here, whole_next}
+use Rattle.sheet.proofs.FieldByField.{number_small, too_long_stands, standing_starts, malformed, field_refused, sheet_over, field_next}
 use Rattle.sheet.proofs.fields.Goals as goal
 
+pub returns-then-sheet-gt-LIMIT : goal.returns-then-sheet-gt-LIMIT
+returns-then-sheet-gt-LIMIT c = too_long_stands _ _ _ c.if-sheet-gt-LIMIT.true
+
+pub loop-found-init : goal.loop-found-init
+loop-found-init c = rw c.requires (standing_starts _ _ _ c.if-sheet-gt-LIMIT.false)
+
 pub returns-in_default : goal.returns-in_default
-returns-in_default c = first_malformed _ _ _ (none_here _ _ c.read.ensures c.in_default.is) c.refused.ensures
+returns-in_default c = malformed _ _ _ _ _ _ _ c.loop-found.invariant (none_here _ _ c.read.ensures c.in_default.is)
 
-pub returns-in_default-field : goal.returns-in_default-field
-returns-in_default-field c =
-    absurd (c.in_default-field.not-Opening _ (first_field _ _ _ (found_here _ _ c.read.ensures c.in-Some.is refl)))
+pub field-requires : goal.field-requires
+field-requires c =
+    let g = c.loop-found.invariant in
+    record { at = c.loop-found.at; short = g.short; read = found_here _ _ c.read.ensures c.in-Some.is refl; ready = g.ready }
 
-pub returns-then-laid-ne0 : goal.returns-then-laid-ne0
-returns-then-laid-ne0 c =
-    let is = found_here _ _ c.read.ensures c.in-Some.is c.in-Opening.is in
-    first_refused _ _ _ _ is _ _ (rw c.shut.ensures at c.open_floor-laid.ensures.whole) c.if-laid-ne0.true c.refused-then-laid-ne0.ensures
+pub returns-in-Err : goal.returns-in-Err
+returns-in-Err c =
+    field_refused _ _ _ _ _ _ _ c.loop-found.invariant _ _ (found_here _ _ c.read.ensures c.in-Some.is refl) _ _ _ _ c.in-Err.ensures
+    (number_some c.in-Err.why) (number_small c.in-Err.why)
 
-pub later_fields-requires : goal.later_fields-requires
-later_fields-requires c =
-    let n = whole_next _ _ _ _ (found_here _ _ c.read.ensures c.in-Some.is c.in-Opening.is) in
-    record { short = c.requires.0; room = c.requires.1; some = omega (arith, n.0); inside = n.1 }
+pub returns-then-found-sheet : goal.returns-then-found-sheet
+returns-then-found-sheet c =
+    sheet_over _ _ _ _ _ _ _ c.loop-found.invariant _ _ (found_here _ _ c.read.ensures c.in-Some.is refl) _ _ _ _ c.in_default-field.ensures refl
+    c.if-found-sheet.true
 
-pub returns : goal.returns
-returns c =
-    let is = found_here _ _ c.read.ensures c.in-Some.is c.in-Opening.is in
-    rw (← first_done _ _ _ _ is _ _ (rw c.shut.ensures at c.open_floor-laid.ensures.whole) c.if-laid-ne0.false) c.later_fields.ensures
+pub loop-found-smaller : goal.loop-found-smaller
+loop-found-smaller c =
+    let n = whole_next _ _ _ _ (found_here _ _ c.read.ensures c.in-Some.is refl) in
+    omega (arith, n.0, n.1)
+
+pub loop-found-preserved : goal.loop-found-preserved
+loop-found-preserved c =
+    field_next _ _ _ _ _ _ _ c.loop-found.invariant _ _ (found_here _ _ c.read.ensures c.in-Some.is refl) _ _ _ _ c.in_default-field.ensures refl
+    c.if-found-sheet.false
