@@ -12,15 +12,12 @@ const PAGES: usize = 64;
 // §23.1: page after page goes out.
 fn shown<W: Write>(sheet: &[u8], to: &mut W) -> io::Result<()> {
     let mut out = [0u8; ROOM];
-    let mut n = 0;
-    while n < PAGES {
+    for n in 0..PAGES {
         let page = view::page_of(sheet, n, &mut out);
-        let written = page.written;
-        to.write_all(&out[..written])?;
+        to.write_all(&out[..page.written])?;
         if page.last {
-            return Ok(());
+            break;
         }
-        n += 1;
     }
     Ok(())
 }

@@ -6,11 +6,23 @@ use Rattle.sheet.specs.Listing.{Ending, own_play}
 use Rattle.sheet.specs.Room.{longest}
 use Rattle.sheet.specs.Written.{Wrote}
 use Rattle.walks.specs.declared.Class.{Class}
-use Rattle.walks.specs.Calls.{Walked}
-use Rattle.walks.specs.Calls.{Refusal, Orders}
-use Rattle.walks.specs.Calls.{records_of, orders_call}
-use Rattle.orders.specs.declared.Answer.{Answer}
-use Rattle.orders.specs.declared.Answer.TheVariants.{Listing, Refused, Counts}
+use Rattle.walks.specs.declared.Walks.{Walks}
+use Rattle.walks.specs.Calls.{Walked, Refusal, Orders, records_of, orders_call}
+use Rattle.turn.specs.Number.{number}
+use Rattle.orders.specs.declared.Answer.{Answer as Said}
+use Rattle.orders.specs.declared.Answer.TheVariants.{Listing as SaidListing, Refused as SaidRefused, Counts as SaidCounts}
+
+-- §18.7: an answer: the listing's length; the number and the offset of a refusal; or the counts
+pub data Answer : Type 0 where
+  Listing : ℕ → Answer
+  Refused : ℕ → ℕ → Answer
+  Counts : Walks → Answer
+
+-- so of the code's, which has the refusal in the place of its number
+abbrev pub answer_as : Said → Answer
+answer_as (SaidListing long) = Listing long
+answer_as (SaidRefused why offset) = Refused (number why) offset
+answer_as (SaidCounts walks) = Counts walks
 
 -- the first three records of a desk; its list has a record for each worker
 abbrev pub class_at : Desk → Class
@@ -34,8 +46,8 @@ answer_from e sheet depth =
     (Listing (length e.handed.lines))
 
 -- the answer for what a sheet comes to: the buffer before, the buffer with its listing after, and the answer
-pub record Answered (e : Ending) (sheet : List ℕ) (depth : ℕ) (out later : List ℕ) (r : Answer) : Type 0 where
-  pub whole : r ≡ answer_from e sheet depth
+pub record Answered (e : Ending) (sheet : List ℕ) (depth : ℕ) (out later : List ℕ) (r : Said) : Type 0 where
+  pub whole : answer_as r ≡ answer_from e sheet depth
   pub lines : Wrote out 0 e.handed.lines later (length e.handed.lines)
   pub fits : length e.handed.lines ≤ longest
 
@@ -48,5 +60,5 @@ abbrev pub depth_in : List ℕ → ℕ
 depth_in input = byte_at input (length input - 1)
 
 -- §18.7: WHAT THE PROGRAM ANSWERS for an input
-pub record InputAnswered (input out later : List ℕ) (r : Answer) : Type 0 where
+pub record InputAnswered (input out later : List ℕ) (r : Said) : Type 0 where
   pub given : Answered (own_play (sheet_in input)) (sheet_in input) (depth_in input) out later r

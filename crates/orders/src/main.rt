@@ -7,13 +7,14 @@ ghost use Rattle.orders.specs.Answers.{Answered, InputAnswered};
 use sheet::{LIMIT, ROOM};
 use std::io;
 use std::io::Write;
-use walks::{Class, Walked, Walks};
+use turn::refusal::Refusal;
+use walks::{Class, Walks};
 
-// §18.7: the listing's length, where the sheet was refused; the number and the offset, where all orders was; and else the counts.
-#[derive(Clone, Copy)]
+// §18.7: the listing's length, where the sheet was refused; why, and the offset, where all orders was; and else the counts.
+#[derive(Clone, Copy, Debug, PartialEq, Eq, Hash)]
 enum Answer {
     Listing(usize),
-    Refused(u8, usize),
+    Refused(Refusal, usize),
     Counts(Walks),
 }
 
@@ -21,21 +22,20 @@ enum Answer {
 fn walked(sheet: &[u8], board: &mut [u64], depth: u8, out: &mut [u8; ROOM]) -> Answer
     ensures { Answered (played sheet.now board.old) sheet.now depth out.old out.new result }
 {
-    let left = sheet::stand(sheet, board, out);
-    if left.stop != 0 {
-        return Answer::Listing(left.written);
-    }
-    let records = left.records;
-    let floor = left.floor;
-    let class = Class {
-        first: records[0],
-        second: records[1],
-        third: records[2],
-        listed: floor.workers,
+    let left = match sheet::stand(sheet, board, out) {
+        Ok(left) => left,
+        Err(stopped) => return Answer::Listing(stopped.written),
     };
-    match walks::all_orders(board, floor, class, depth as usize) {
-        Walked::Refusal(why) => Answer::Refused(why, sheet.len()),
-        Walked::Orders(walks) => Answer::Counts(walks),
+    let [first, second, third, ..] = left.records;
+    let class = Class {
+        first,
+        second,
+        third,
+        listed: left.floor.workers,
+    };
+    match walks::all_orders(board, left.floor, class, usize::from(depth)) {
+        Ok(walks) => Answer::Counts(walks),
+        Err(why) => Answer::Refused(why, sheet.len()),
     }
 }
 
@@ -52,39 +52,10 @@ fn on_own_board(sheet: &[u8], depth: u8, out: &mut [u8; ROOM]) -> Answer
 fn answered(input: &[u8], out: &mut [u8; ROOM]) -> Answer
     ensures { InputAnswered input.now out.old out.new result }
 {
-    if input.len() == 0 {
-        return on_own_board(input, 0, out);
+    match input.split_last() {
+        Some((&depth, sheet)) => on_own_board(sheet, depth, out),
+        None => on_own_board(input, 0, out),
     }
-    let last = input.len() - 1;
-    let depth = input[last];
-    on_own_board(&input[..last], depth, out)
-}
-
-// A number with the text before it.
-fn print<W: Write>(to: &mut W, text: &[u8], n: u64) -> io::Result<()> {
-    to.write_all(text)?;
-    write!(to, "{n}")
-}
-
-// The end of a line.
-fn end_line<W: Write>(to: &mut W) -> io::Result<()> {
-    to.write_all(b"\n")
-}
-
-// §9.3: the line of a refusal.
-fn print_refusal<W: Write>(to: &mut W, why: u8, offset: usize) -> io::Result<()> {
-    print(to, b"R ", why as u64)?;
-    print(to, b" ", offset as u64)?;
-    end_line(to)
-}
-
-// §18.7: the line of the counts.
-fn print_walks<W: Write>(to: &mut W, walks: Walks) -> io::Result<()> {
-    print(to, b"finished ", walks.finished)?;
-    print(to, b" cut ", walks.cut)?;
-    print(to, b" lost ", walks.lost)?;
-    print(to, b" most ", walks.most)?;
-    end_line(to)
 }
 
 // §18.7: a sheet comes in with the depth behind it, and the counts go out.
@@ -95,7 +66,13 @@ fn main(rt: HostRuntime) -> io::Result<()> {
     let mut to = rt.stdout();
     match answered(&input[..read], &mut out) {
         Answer::Listing(written) => to.write_all(&out[..written]),
-        Answer::Refused(why, offset) => print_refusal(&mut to, why, offset),
-        Answer::Counts(walks) => print_walks(&mut to, walks),
+        // §9.3: the line of a refusal
+        Answer::Refused(why, offset) => write!(to, "R {} {offset}\n", u8::from(why)),
+        // §18.7: the line of the counts
+        Answer::Counts(walks) => write!(
+            to,
+            "finished {} cut {} lost {} most {}\n",
+            walks.finished, walks.cut, walks.lost, walks.most
+        ),
     }
 }
