@@ -14,7 +14,8 @@ use Rattle.engine.specs.Room.{Few}
 use Rattle.sheet.specs.declared.Call.{Call}
 use Rattle.sheet.specs.declared.Field.TheVariants.{Opening, Calling}
 use Rattle.sheet.specs.Fields.{Whole, read_field}
-use Rattle.sheet.specs.Play.{Desk, desk_of, outcome, seat_at, ended_line, open_field, call_field, turn_at_desk, turns_done}
+use Rattle.sheet.specs.declared.Desk.{Desk}
+use Rattle.sheet.specs.Play.{desk_of, outcome, seat_at, ended_line, open_field, call_field, turn_at_desk, turns_done}
 use Rattle.sheet.specs.Listing.{after_field, fields_from}
 use Rattle.sheet.proofs.Turns.{turns_from}
 use Rattle.view.specs.declared.Cursor.{Cursor}

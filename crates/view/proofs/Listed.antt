@@ -8,7 +8,8 @@ use lib.Dec.{ltb}
 use lib.ListN.{length, replicate}
 use borrow.Author.Tests.{ltb-true, ltb-false, lt-ltb, le-ltb}
 use Rattle.turn.specs.Turn.{After, after}
-use Rattle.sheet.specs.Play.{Desk, shut_desk}
+use Rattle.sheet.specs.declared.Desk.{Desk}
+use Rattle.sheet.specs.Play.{shut_desk}
 use Rattle.sheet.specs.Listing.{fields_from, played, words_asked, own_play, listing}
 use Rattle.sheet.proofs.TooLong.{too_long}
 use Rattle.view.specs.declared.Change.{Change}

@@ -31,7 +31,8 @@ use Rattle.sheet.specs.declared.Span.{Span}
 use Rattle.sheet.specs.declared.Field.{Field}
 use Rattle.sheet.specs.declared.Field.TheVariants.{Opening, Calling, Turning}
 use Rattle.sheet.specs.Fields.{Read, Whole, Refused, read_field}
-use Rattle.sheet.specs.Play.{Desk, desk_of, Outcome, outcome, shut_desk, seat_at, ended_line, open_field, call_field, asked, turn_listed, turn_at_desk, and_then, turns_done}
+use Rattle.sheet.specs.declared.Desk.{Desk}
+use Rattle.sheet.specs.Play.{desk_of, Outcome, outcome, shut_desk, seat_at, ended_line, open_field, call_field, asked, turn_listed, turn_at_desk, and_then, turns_done}
 use Rattle.sheet.specs.Listing.{Ending, over, after_field, one_field, fields_from, words_asked}
 use Rattle.sheet.proofs.Fielding.{whole_next, whole_turns}
 use Rattle.sheet.proofs.Laying.{laid_refused, laid_done}

@@ -22,14 +22,14 @@ pub const ROOM: usize = 1024 * 1024 + 64 * 81;
 pub const SAID: usize = 1024;
 
 // Who has changed a mark word, and at which turn; 0 and 0 where nobody has.
-#[derive(Clone, Copy)]
+#[derive(Clone, Copy, Debug, PartialEq, Eq, Hash)]
 pub struct Change {
     pub turn: u32,
     pub worker: u32,
 }
 
 // A turn that was done: the worker's record before it and after it, its report, who had changed the mark word of its bucket last, and the worker.
-#[derive(Clone, Copy)]
+#[derive(Clone, Copy, Debug, PartialEq, Eq, Hash)]
 pub struct Acted {
     pub before: Worker,
     pub after: Worker,
@@ -39,7 +39,8 @@ pub struct Acted {
 }
 
 // A refusal: the offset and the number of the field; of a turn which it would have been, and else 0; the number of refusal, and the worker.
-#[derive(Clone, Copy)]
+// A number and no enum, since the scenes' theorems speak of whichever number is told (`stopped`).
+#[derive(Clone, Copy, Debug, PartialEq, Eq, Hash)]
 pub struct Stop {
     pub offset: usize,
     pub field: usize,
@@ -48,7 +49,7 @@ pub struct Stop {
     pub worker: u8,
 }
 
-#[derive(Clone, Copy)]
+#[derive(Clone, Copy, Debug, PartialEq, Eq, Hash)]
 pub enum Scene {
     Nothing,
     Opened(Plan),
@@ -59,7 +60,7 @@ pub enum Scene {
 }
 
 // How many fields are begun, where the last of them begins, which of its bytes is the next turn, where it ends, and whether all is over.
-#[derive(Clone, Copy)]
+#[derive(Clone, Copy, Debug, PartialEq, Eq, Hash)]
 pub struct Cursor {
     pub field: usize,
     pub at: usize,
@@ -69,7 +70,7 @@ pub struct Cursor {
 }
 
 // Where a sheet stands, beside the board, and the scene that has brought it there.
-#[derive(Clone, Copy)]
+#[derive(Clone, Copy, Debug, PartialEq, Eq, Hash)]
 pub struct Stage {
     pub records: [Worker; 64],
     pub changes: [Change; 256],
@@ -80,7 +81,7 @@ pub struct Stage {
 }
 
 // A page of the board's text: how many bytes it has, and whether it is the last one.
-#[derive(Clone, Copy)]
+#[derive(Clone, Copy, Debug, PartialEq, Eq, Hash)]
 pub struct Page {
     pub written: usize,
     pub last: bool,

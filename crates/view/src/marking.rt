@@ -1,7 +1,7 @@
 // The words of numbers, mark words and buckets, with a pen.
 #![tactic(auto, using(pen::proofs::Putting::pens), unfolding(pen::specs::Words::bytes))]
 
-ghost use Rattle.std.specs.Prelude.{cond, ◌≡◌, [], ◌++◌, ◌+◌, eqb};
+ghost use Rattle.std.specs.Prelude.{◌≡◌, ◌++◌, ◌+◌};
 ghost use Rattle.mark.specs.Word.{version};
 ghost use Rattle.pen.specs.Written.{Writes};
 ghost use Rattle.pen.specs.Words.{bytes};

@@ -6,7 +6,7 @@ ghost use Rattle.pen.specs.Written.{Writes};
 ghost use Rattle.view.specs.Scenes.{scenes_on, refusal_in, all_refused};
 ghost use Rattle.view.specs.Promises.{PagePut};
 
-use crate::{Scene, Stage, keep, play, telling};
+use crate::{Scene, Stage, telling};
 use pen::Pen;
 
 // A page has so many scenes.
@@ -16,13 +16,13 @@ const PER_PAGE: usize = 1024;
 pub fn page(pen: &mut Pen<'_>, sheet: &[u8], board: &mut [u64], page: usize) -> bool
     ensures { PagePut (scenes_on sheet.now board.old) page pen.old pen.new result }
 {
-    let mut stage = keep::shut();
+    let mut stage = Stage::shut();
     // no more scenes than the sheet has bytes, and one
     for n in 0..=sheet.len() {
         if n / PER_PAGE > page {
             break;
         }
-        stage = play::next(sheet, board, stage);
+        stage.next(sheet, board);
         if n / PER_PAGE == page {
             telling::stage(pen, board, &stage);
         }
@@ -37,9 +37,9 @@ pub fn page(pen: &mut Pen<'_>, sheet: &[u8], board: &mut [u64], page: usize) -> 
 pub fn last(sheet: &[u8], board: &mut [u64]) -> Stage
     ensures { refusal_in result.scene ≡ all_refused (scenes_on sheet.now board.old) }
 {
-    let mut stage = keep::shut();
+    let mut stage = Stage::shut();
     loop {
-        stage = play::next(sheet, board, stage);
+        stage.next(sheet, board);
         if stage.cursor.over {
             return stage;
         }

@@ -3,13 +3,13 @@
 
 ghost use Rattle.turn.specs.Turn.{after};
 ghost use Rattle.pen.specs.Written.{Writes};
-ghost use Rattle.view.specs.Telling.{open_told, ticket_told, begin_told, meaning, whose_told, why_told, stop_told, call_told, busy_told, busy_from, totals_told, over_told, scene_told, stage_told};
+ghost use Rattle.view.specs.Telling.{open_told, ticket_told, begin_told, meaning, whose_told, why_told, stop_told, call_told, busy_told, busy_from, totals_told, over_told, stage_told};
 
 use crate::{Scene, Stage, Stop, marking, turning};
 use engine::{Plan, Totals};
 use pen::Pen;
 use sheet::Call;
-use turn::{Worker, record, refusal};
+use turn::{Worker, record};
 
 // ---- a floor, and a call
 
@@ -46,21 +46,21 @@ fn start(pen: &mut Pen<'_>, c: Call)
 
 // ---- a refusal
 
-// What its number means.
+// What its number means (§6).
 #[tactic(auto, using(pen::proofs::Putting::pens), unfolding(pen::specs::Words::bytes, crate::specs::Telling::meaning))]
 fn means(pen: &mut Pen<'_>, number: u8)
     ensures { Writes pen.old (meaning number) pen.new }
 {
     match number {
-        refusal::WRONG_SIZES => pen.words(b"a floor has 1 to 64 workers and 1 to 256 buckets"),
-        refusal::NO_WORKER => pen.words(b"the floor has no such worker"),
-        refusal::BROKEN_RECORD => pen.words(b"the record of the worker is broken"),
-        refusal::BUSY_WORKER => pen.words(b"the worker is at a call already"),
-        refusal::SPENT_TICKET => pen.words(b"the ticket is not greater than every one before it"),
-        refusal::IDLE_WORKER => pen.words(b"the worker is idle"),
-        refusal::BROKEN_BUCKET => pen.words(b"the bucket is broken"),
-        refusal::MALFORMED => pen.words(b"the field is not written as a field is"),
-        refusal::TOO_LONG => pen.words(b"the sheet is longer than 16384 bytes"),
+        1 => pen.words(b"a floor has 1 to 64 workers and 1 to 256 buckets"),
+        2 => pen.words(b"the floor has no such worker"),
+        3 => pen.words(b"the record of the worker is broken"),
+        4 => pen.words(b"the worker is at a call already"),
+        5 => pen.words(b"the ticket is not greater than every one before it"),
+        6 => pen.words(b"the worker is idle"),
+        7 => pen.words(b"the bucket is broken"),
+        8 => pen.words(b"the field is not written as a field is"),
+        9 => pen.words(b"the sheet is longer than 16384 bytes"),
         _ => pen.words(b"there is no such number"),
     }
 }

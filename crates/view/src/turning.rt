@@ -1,10 +1,10 @@
-// The words of a turn, with a pen.
+// The words of a turn, with a pen. Places and kinds are numbers, as C has them in the record (`turn::Worker`).
 #![tactic(auto, using(pen::proofs::Putting::pens), unfolding(pen::specs::Words::bytes))]
 
-ghost use Rattle.std.specs.Prelude.{◌&&◌, ◌||◌, not, ◌≡◌, ◌++◌, ◌+◌, eqb};
+ghost use Rattle.std.specs.Prelude.{◌&&◌, ◌≡◌, ◌++◌, ◌+◌, eqb};
 ghost use Rattle.pen.specs.Written.{Writes};
 ghost use Rattle.pen.specs.Words.{bytes};
-ghost use Rattle.view.specs.Telling.{told, mark_told, cell_on, read_told, outcome_told, swap_told, store_told, writes_told, does_told, is_won, is_lost, goes_on};
+ghost use Rattle.view.specs.Telling.{told, mark_told, cell_on, read_told, outcome_told, swap_told, store_told, writes_told, does_told, is_won};
 ghost use Rattle.view.specs.Telling.{new_word, new_ticket, new_held, new_slot, full_told, blame_told, lost_told, kind_name, answer_told, end_told, learnt_told, news_told, head_told, turn_told};
 
 use crate::{Acted, Change, marking};
@@ -50,20 +50,6 @@ fn stores(pen: &mut Pen<'_>, said: &[u8], value: u64, slot: u8)
 {
     pen.told(said, value);
     pen.told(b" into slot ", u64::from(slot));
-}
-
-// Whether a ticket is read at a place, to be remembered.
-fn reads_ticket(place: u8) -> bool
-    ensures { result ≡ (eqb place 2 || eqb place 12) }
-{
-    place == 2 || place == 12
-}
-
-// Whether a lot is read at a place.
-fn reads_lot(place: u8) -> bool
-    ensures { result ≡ (eqb place 4 || eqb place 11) }
-{
-    place == 4 || place == 11
 }
 
 // The mark of a slot, as the turn found it.
@@ -149,11 +135,12 @@ fn new_word(pen: &mut Pen<'_>, w: Worker, v: Worker, action: Action)
     }
 }
 
+// The ticket, which is read to be remembered at places 2 and 12.
 #[tactic(auto, using(pen::proofs::Putting::pens), unfolding(pen::specs::Words::bytes, crate::specs::Telling::new_ticket))]
 fn new_ticket(pen: &mut Pen<'_>, w: Worker, v: Worker)
     ensures { Writes pen.old (new_ticket w v) pen.new }
 {
-    if reads_ticket(w.place) {
+    if w.place == 2 || w.place == 12 {
         marking::line(pen, b"  remembers ticket ", v.seen);
     }
 }

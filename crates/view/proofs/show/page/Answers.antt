@@ -10,22 +10,22 @@ use Rattle.view.proofs.show.page.Goals.{Joined-n-page-2, Else-stage, then-n-page
 -- the scene is told, if it stands on the page
 told_next : (c : Joined-n-page-2) → Writes c.args.pen.now (told_on (scenes_on c.args.sheet.now c.args.board.now) c.args.page (c.loop-n.n + 1)) c.if-n-page-2.pen
 told_next c =
-    let here = played_one _ _ _ _ _ c.loop-n.invariant.0 c.next-stage.ensures in
+    let here = played_one _ _ _ _ _ c.loop-n.invariant.0 c.next.ensures in
     elim c.if-n-page-2.branch [
       | then-n-page-2 w ↦ rw w.pen-is (page_next _ c.args.page c.loop-n.n _ _ here w.if-n-page-2.true c.loop-n.invariant.1 w.stage.ensures)
       | else-n-page-2 w ↦ rw w.pen-is (page_before _ c.args.page c.loop-n.n _ _ here (omega arith) c.loop-n.invariant.1)
     ]
 
 -- it was not the last
-another : (c : Else-stage) → Playing c.args.sheet.now c.args.board.now (c.loop-n.n + 1) (after c.next-stage.new.board c.next-stage.result)
-another c = playing_on _ _ _ _ _ c.loop-n.invariant.0 c.next-stage.ensures c.if-stage.false
+another : (c : Else-stage) → Playing c.args.sheet.now c.args.board.now (c.loop-n.n + 1) (after c.next.new.board c.next.new.self)
+another c = playing_on _ _ _ _ _ c.loop-n.invariant.0 c.next.ensures c.if-stage.false
 
 pub loop-n-init : goal.loop-n-init
 loop-n-init c = (rw c.shut-stage.ensures (playing_starts _ _), page_starts (scenes_on c.args.sheet.now c.args.board.now) c.args.page _, omega arith, refl)
 
 pub returns-then-stage : goal.returns-then-stage
 returns-then-stage c =
-    let here = played_last _ _ _ _ _ c.loop-n.invariant.0 c.next-stage.ensures c.if-stage.true in
+    let here = played_last _ _ _ _ _ c.loop-n.invariant.0 c.next.ensures c.if-stage.true in
     let long = length_here c.loop-n.n _ _ _ here in
     record {
       lines = rw (← page_ends _ c.args.page c.loop-n.n _ _ here refl c.if-n-page.false) (told_next (goal.at.returns-then-stage c).Joined-n-page-2);
@@ -37,7 +37,7 @@ loop-n-preserved c = (
   another (goal.at.loop-n-preserved c).Else-stage,
   told_next (goal.at.loop-n-preserved c).Joined-n-page-2,
   omega (arith, c.if-n-page.false),
-  c.next-stage.auto.board ∙ c.loop-n.invariant.3,
+  c.next.auto.board ∙ c.loop-n.invariant.3,
 )
 
 -- the page is full
