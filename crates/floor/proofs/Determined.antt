@@ -24,7 +24,7 @@ use Rattle.floor.specs.declared.CountOutcome.{CountOutcome}
 use Rattle.floor.specs.declared.TotalOutcome.{TotalOutcome}
 use Rattle.floor.specs.declared.NextOutcome.{NextOutcome}
 use Rattle.floor.specs.Calls.{OnList, on_list}
-use Rattle.floor.specs.Promises.{FloorOpened, StartLeft, TurnLeft, RetireLeft, RunLeft, MoveLeft, PartShown, CountLeft, TotalLeft, NextLeft}
+use Rattle.floor.specs.Promises.{FloorOpened, StartLeft, TurnLeft, RetireLeft, RunLeft, MoveLeft, PartShown, ShowNumbered, CountLeft, TotalLeft, NextLeft}
 
 -- a list with an answer, taken apart
 apart : {A : Type 0} {one two : List Worker} {r t : A} → on_list one r ≡ on_list two t → (one ≡ two) × (r ≡ t)
@@ -118,6 +118,10 @@ desk_show_determined board f lot p q x y =
     let start = one_answer x.start y.start in
     let words = one_answer x.words y.words in
     λ i. record { start = start i; words = words i }
+
+-- the number of refusal of a show
+pub desk_show_refusal_determined : (board : List ℕ) (f : Floor) (lot r t : ℕ) → ShowNumbered board f lot r → ShowNumbered board f lot t → r ≡ t
+desk_show_refusal_determined board f lot r t p q = one_answer p.whole q.whole
 
 -- a count
 pub desk_count_determined : (board : List ℕ) (f : Floor) (r t : CountOutcome) → CountLeft board f r → CountLeft board f t → r ≡ t

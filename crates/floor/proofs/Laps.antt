@@ -2,8 +2,8 @@
 --     fn laps(records: &mut [Worker], x: X, count: usize) {
 --         let listed = records.len(); let end = least(count, listed); let mut k = 0;
 --         while k < end { LEAF(records, k, x); k += 1; } }
--- The list is lent again for each record. The invariant at k and zs: the first k records are what the leaf makes of them. Assumes `Logic`, and
--- that the leaf and `least` meet their contracts.
+-- where `least` is whatever hands back the smaller of two numbers. The list is lent again for each record. The invariant at k and zs: the first k
+-- records are what the leaf makes of them. Assumes `Logic`, and that the leaf and `least` meet their contracts.
 use mathlib.Core.Path.{◌≡◌, refl, sym, ◌∙◌}
 use Prim.Native.Nat.{ℕ, ◌≤◌, ◌+◌, ◌-◌}
 use mathlib.Core.List.{[], ◌∷◌, List}
@@ -17,13 +17,10 @@ use mir.Val.{vunit, vint}
 use base.Logic.{SProp, emp, id⊢}
 use base.Fml.{ftrue, flft}
 use prog.Memory.{Memory}
-use prog.Model.{Model}
-use prog.Routine.{Routine, Env as REnv}
+use prog.Routine.{Routine}
 use prog.Wp.{Env, WpFn, Tables, after_turn}
 use types.Logic.{Logic}
 use contract.Monad.{Fun, fact}
-use contract.Running.{Running, tables, within}
-use prog.Wired.{Wired}
 use types.Kit.{Item, ‵, ◌⊛◌, at_ret, ◌$◌, ◌∵◌, !, qed, move, drop, keep, split, join, fsplit, fjoin, suffices, frame, done}
 use types.Run.{look, init, store, forget, stop, from, lit, unit_lit, of_opd, bin, and_then, no_more, assigns_last, first, blocks, loops, again, exec, returns, enter, alloc1, alloc0, params1, pass1, pass0}
 use sound.WpLaws.{fm_of}
@@ -51,9 +48,26 @@ use Rattle.floor.proofs.Lapping.{lap, all_asked}
 use Rattle.floor.proofs.Lend.{lends_again, back_again}
 use Rattle.floor.proofs.Records.{row}
 use Rattle.floor.proofs.Leaves.{given_call}
-use Rattle.floor.specs.contracts.list.least as least
-use Rattle.floor.proofs.list.least.Symbol as least-def
-use Rattle.floor.proofs.list.least.Met as least-thm
+
+-- ---- the smaller of two numbers
+
+abbrev pub least_ended : Ended
+least_ended = record {
+  signature = record {
+    lifetimes = 0;
+    outlives = [];
+    params = plain (λ _. usize) ∷ plain (λ _. usize) ∷ [];
+    result = plain (λ _. usize);
+  };
+  kept = (yes, (yes, tt));
+}
+
+abbrev pub least : {M : Type 1} (𝓤 : Ura M) → Clauses 𝓤 least_ended
+least 𝓤 κs a = record {
+  ghost = Unit {0};
+  requires = λ _. emp 𝓤;
+  ensures = λ _ r e. fact 𝓤 (r ≡ cond (ltb a.0 a.1.0) a.0 a.1.0);
+}
 
 -- ---- where the loop stands
 
@@ -104,7 +118,7 @@ module _ (X : Plain) (g : X.row.Denot → ℕ → Worker → Worker) where
     ensures = λ _ r e. fact 𝓤 (e.0.now ≡ firsts (g a.1.0) a.1.1.0 a.0.now);
   }
 
-  -- its code, where nm is the leaf's key
+  -- its code, where nm is the leaf's key and nm₀ that of `least`
   abbrev lap_body : Callee → Body
   lap_body nm =
       seq (assign (place 7 []) (op2 (lt unsigned) (copy (place 6 [])) (copy (place 5 []))))
@@ -114,8 +128,8 @@ module _ (X : Plain) (g : X.row.Denot → ℕ → Worker → Worker) where
       (seq (call nm (copy (place 10 []) ∷ copy (place 6 []) ∷ copy (place 2 []) ∷ []) (place 8 []))
       (assign (place 6 []) (op2 (add unsigned) (copy (place 6 [])) (int w64 1)))))))
 
-  abbrev pub function : Callee → Fn
-  function nm = record {
+  abbrev pub function : Callee → Callee → Fn
+  function nm₀ nm = record {
     lifetimes = 1;
     outlives = [];
     ty_params = [];
@@ -126,7 +140,7 @@ module _ (X : Plain) (g : X.row.Denot → ℕ → Worker → Worker) where
         ∷ local ty_bool value_local ∷ local ty_unit value_local ∷ local (pointer erased mut row) value_local
         ∷ local (slice_ty (pointer erased mut row)) value_local ∷ [];
     body = seq (assign (place 4 []) (rv_opd (copy (place 1 (field 1 ∷ [])))))
-        (seq (call least-def.name (copy (place 3 []) ∷ copy (place 4 []) ∷ []) (place 5 []))
+        (seq (call nm₀ (copy (place 3 []) ∷ copy (place 4 []) ∷ []) (place 5 []))
         (seq (assign (place 6 []) (rv_opd (int w64 0)))
         (seq (block (loop (lap_body nm))) (seq (assign (place 0 []) (rv_opd opd_unit)) return))));
   }
@@ -135,29 +149,29 @@ module _ (X : Plain) (g : X.row.Denot → ℕ → Worker → Worker) where
   stayed = (stay_slice (0 ∷ []) tt (plain (λ _. row)), (stay_none (λ _. X.row) yes, (stay_none (λ _. usize) yes, tt)))
 
   pub laps_meet : {M : Type 1} {𝓤 : Ura M} (𝓛 : Logic 𝓤) → (mem : Memory → SProp 𝓤) (run : Routine → Fun 𝓤)
-      (𝓣 : Tables 𝓤 𝓛.H) (nm : Callee)
-      → Triple 𝓤 (𝓣.C least-def.name) (triple_of 𝓛 least.signature (least.spec 𝓛 mem run))
+      (𝓣 : Tables 𝓤 𝓛.H) (nm₀ nm : Callee)
+      → Triple 𝓤 (𝓣.C nm₀) (triple_of 𝓛 least_ended.signature (closing 𝓛 least_ended (least 𝓤)))
       → Triple 𝓤 (𝓣.C nm) (triple_of 𝓛 leaf_ended.signature (closing 𝓛 leaf_ended (leaf 𝓤)))
-      → Meets 𝓛 ended.signature (WpFn 𝓤 𝓛.H 𝓣.C 𝓣.Λ (function nm)) (closing 𝓛 ended (whole 𝓤))
+      → Meets 𝓛 ended.signature (WpFn 𝓤 𝓛.H 𝓣.C 𝓣.Λ (function nm₀ nm)) (closing 𝓛 ended (whole 𝓤))
   unfolding after_turn
-  laps_meet {𝓤 = 𝓤} 𝓛 mem run 𝓣 nm leasts leaves =
+  laps_meet {𝓤 = 𝓤} 𝓛 mem run 𝓣 nm₀ nm leasts leaves =
       walk_closes 𝓛 ended stayed (
         Goes-slice 𝓛 1 0 tt (plain (λ _. row)),
         (Goes-none 𝓛 1 (λ _. X.row) yes (λ κs. still_silent X.row X.still), (Goes-none 𝓛 1 (λ _. usize) yes (λ κs x f. refl), tt)),
       )
-      (whole 𝓤) (function nm) 𝓣 (λ κs. (mut_slice_vals, ((λ x. X.val x ∷ []), (uint_vals w64, tt))))
+      (whole 𝓤) (function nm₀ nm) 𝓣 (λ κs. (mut_slice_vals, ((λ x. X.val x ∷ []), (uint_vals w64, tt))))
       (λ κs. (mut_slice_Tells (named 0) κs.0 row, (X.tells, (uint_Tells w64, tt)))) (λ κs qs bounds a g' are Post ends.
       let ys = a.0.now in let x = a.1.0 in let x-is = are.1.0 in
       let n = a.1.1.0 in let n-fits = are.1.1.0.1 in let v : ℕ → ℕ → ℕ = loc 11 in
       qed 𝓛 ((‵ (flft κs.0 qs.0) ⊛ ‵ ftrue) ∷ ‵ (owns (MutSlice (named 0) κs.0 row ∷ X.row ∷ usize ∷ []) a _) ∷ []) ∵
-      enter ! 𝓣.C 𝓣.Λ (function nm) _ _ $
+      enter ! 𝓣.C 𝓣.Λ (function nm₀ nm) _ _ $
       alloc1 ! (λ l₀. alloc1 ! (λ l₁. alloc1 ! (λ l₂. alloc1 ! (λ l₃. alloc1 ! (λ l₄. alloc1 ! (λ l₅. alloc1 ! (λ l₆. alloc1 ! (λ l₇. alloc1 ! (λ l₈.
       alloc1 ! (λ l₉. alloc1 ! (λ l₁₀. alloc0 ! $ params1 ! $
       pass1 ! (init ! (v 0 1) refl (tt, (tt, (record { fits = are.0.0.1.0 }, tt)))) $ pass1 ! (init ! (v 0 2) refl (X.typed 𝓛 x x-is)) $
       pass1 ! (init ! (v 0 3) refl (tt, record { fits = n-fits })) $ pass0 ! $
       sets ! (of_opd ! (part ! (v 0 1) 1 refl)) (v 0 4) refl (tt, record { fits = are.0.0.1.0 }) $
       nothing ! $ arg_num ! (length ys) are.0.0.1.0 $ arg_num ! n n-fits $ nothing ! $ join ! $
-      cited_call ! (fm_of 𝓤 𝓛.H 𝓛.laws 𝓣) least.ended (least.clauses 𝓛 mem run) leasts
+      cited_call ! (fm_of 𝓤 𝓛.H 𝓛.laws 𝓣) least_ended (least 𝓤) leasts
       ((tt, tt, tt, (n, (length ys, tt)), (uint_vals w64 n, (uint_vals w64 (length ys), tt))), tt) (id⊢ 𝓤 _) (‵ ftrue) refl (vint w64) (uint_Tells w64)
       (λ m _. m ≡ cond (ltb n (length ys)) n (length ys)) (λ m _. refl) (and_then ! (var ! (v 1 3) refl) (and_then ! (var ! (v 1 4) refl) (no_more !)))
       (λ m _ m-is least-is. let m-fits = m-is.1 in
@@ -165,7 +179,7 @@ module _ (X : Plain) (g : X.row.Denot → ℕ → Worker → Worker) where
       sets ! (of_opd ! (lit ! tt)) (v 0 6) refl (tt, record { fits = lit< tt }) $
       -- [_10; …; _0; …; the token; what the parameters own]
       move ! (23 ∷ []) $ fsplit ! $ move ! (24 ∷ []) $ split ! $ keep ! (span 4 22 (0 ∷ 2 ∷ [])) $
-      let En : Env 𝓤 𝓛.H = env_of (function nm).locals (l₀ ∷ l₁ ∷ l₂ ∷ l₃ ∷ l₄ ∷ l₅ ∷ l₆ ∷ l₇ ∷ l₈ ∷ l₉ ∷ l₁₀ ∷ []) in
+      let En : Env 𝓤 𝓛.H = env_of (function nm₀ nm).locals (l₀ ∷ l₁ ∷ l₂ ∷ l₃ ∷ l₄ ∷ l₅ ∷ l₆ ∷ l₇ ∷ l₈ ∷ l₉ ∷ l₁₀ ∷ []) in
       let I : Lap (g x) m ys
       → List (Item 𝓤) = λ t. stack 𝓤 En (
         bare,
@@ -210,9 +224,3 @@ module _ (X : Plain) (g : X.row.Denot → ℕ → Worker → Worker) where
       owned ! X.row (Is X.row) (X.makes 𝓛) x _ x-is $ fjoin ! $
       move ! (1 ∷ 0 ∷ []) $ fjoin ! $ frame ! $ owned ! Nothing (Is Nothing) (Nothing-Makes 𝓛) tt _ refl $ done !))
       (0, zero_le m, (ys, refl, sym (firsts_none (g x) ys))))))))))))))))
-
--- the theorem of `least`, at the key by which a caller's MIR calls it
-pub least_known : {M : Type 1} {𝓤 : Ura M} (𝓛 : Logic 𝓤) (𝓜 : Model 𝓤 𝓛.H) (𝓡 : Running 𝓤 𝓛.H 𝓜) (γ : REnv)
-    → Wired γ least-def.code
-    → Triple 𝓤 ((tables 𝓤 𝓛.H 𝓜 𝓡 γ).C least-def.name) (triple_of 𝓛 least.signature (least.spec 𝓛 𝓜.mem 𝓡.returns))
-least_known {𝓤 = 𝓤} 𝓛 𝓜 𝓡 γ w = least-thm.met 𝓤 𝓛 𝓜 (within 𝓤 𝓛.H 𝓜 𝓡 γ) w

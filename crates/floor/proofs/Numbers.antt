@@ -6,23 +6,31 @@ use mathlib.Core.List.{List}
 use lib.Dec.{eqb}
 use lib.ListN.{length, set}
 use lib.Seq.{set-get_or}
+use borrow.Author.Tests.{ne_eqb}
 use Rattle.mark.proofs.Choices.{by_cases}
 use Rattle.turn.specs.declared.Worker.{Worker}
-use Rattle.turn.specs.Turn.{Said}
-use Rattle.turn.specs.Turn.{Tried}
-use Rattle.turn.specs.Retire.{Retired}
-use Rattle.turn.specs.Turn.{Answer, Refused, Done, Turned, After, after, number_of, answer_of}
+use Rattle.std.proofs.Common.{Result, Ok, Err, Option}
+use Rattle.turn.specs.declared.TurnDone.{TurnDone}
+use Rattle.turn.specs.declared.refusal.Refusal.{Refusal as Why}
+use Rattle.turn.specs.Number.{number, result_number}
+use Rattle.turn.specs.Turn.{Answer, Refused, Done, Said, Tried, Turned, After, after, number_of, answer_of, tried_as}
+use Rattle.turn.specs.Retire.{Retired, retired_as}
+use Rattle.turn.proofs.Refusing.{number_some, retired_told}
+use Rattle.engine.specs.declared.Begun.{Begun}
+use Rattle.floor.specs.declared.list.Done.{Done as TurnTaken}
 use Rattle.engine.specs.declared.Floor.{Floor}
 use Rattle.engine.specs.declared.Seat.{Seat}
 use Rattle.engine.specs.Calls.{Counted}
 use Rattle.engine.specs.Calls.{Refusal, Lots}
-use Rattle.engine.specs.Calls.{blank, record_in, seat_in, tried, records_left, counted_number}
-use Rattle.engine.specs.Promises.{CountDone}
+use Rattle.engine.specs.Calls.{Started, started_as, blank, record_in, seat_in, tried, records_left, counted_as, counted_number}
+use Rattle.engine.specs.Promises.{StartDone, CountDone}
+use Rattle.engine.proofs.Answers.{counted_told}
 use Rattle.engine.specs.Firsts.{firsts}
 use Rattle.engine.proofs.Turns.{tried_is_turned}
 use Rattle.engine.proofs.Firsts.{firsts_none}
-use Rattle.hall.specs.Totalled.{Totalled}
-use Rattle.hall.specs.Next.{Next}
+use Rattle.hall.specs.Totalled.{Totalled, totalled_as}
+use Rattle.hall.specs.Next.{Next, next_as}
+use Rattle.hall.proofs.Answers.{totalled_told, next_told as next_told_lem}
 use Rattle.hall.specs.Refusals.{hall_turn_number}
 use Rattle.hall.specs.Calls.{hall_try, hall_turn, index_left, hall_retire, totalled_number, next_number}
 use Rattle.hall.specs.Promises.{TurnKept, RetireKept, TotalTold, NextTold}
@@ -30,10 +38,10 @@ use Rattle.floor.specs.declared.TurnOutcome.{TurnOutcome}
 use Rattle.floor.specs.declared.CountOutcome.{CountOutcome}
 use Rattle.floor.specs.declared.TotalOutcome.{TotalOutcome}
 use Rattle.floor.specs.declared.NextOutcome.{NextOutcome}
-use Rattle.floor.specs.Told.{turn_told, count_told, total_told, next_told}
+use Rattle.floor.specs.Told.{start_told, turn_told, count_told, total_told, next_told}
 use Rattle.floor.specs.Lent.{beside}
-use Rattle.floor.specs.Calls.{OnList, on_list, step_in, sleepers, say_in, turn_in}
-use Rattle.floor.specs.Promises.{TurnLeft, RetireLeft, CountLeft, TotalLeft, NextLeft}
+use Rattle.floor.specs.Calls.{OnList, on_list, said_as, answered_as, step_in, sleepers, say_in, turn_in}
+use Rattle.floor.specs.Promises.{StartLeft, TurnLeft, RetireLeft, CountLeft, TotalLeft, NextLeft}
 use Rattle.floor.proofs.Beside.{all_beside}
 use Rattle.hall.proofs.Plain.{hall_turn_number_lem}
 
@@ -55,16 +63,27 @@ put_back {D} {R} worker rest core board records f i w o board' records' e₁ e�
     let put : After D → After (OnList R) = λ x. after x.words (on_list (set records i (worker x.handed)) (rest x.handed)) in
     rw (e₃, ← e₁) (ap put e₂)
 
+-- a start
+pub start_left :
+    {B : Type 0} (start : List ℕ → Seat → Worker → B → Started) (board : List ℕ) (records : List Worker) (f : Floor) (i : ℕ) (b : B) (w : Worker)
+    (r : Result Begun Why) (records' : List Worker)
+    → w ≡ record_in records i
+    → StartDone start board (seat_in f records i) w b r
+    → records' ≡ set records i (started_as f w r).worker
+    → StartLeft start board records f i b records' (start_told (started_as f w r))
+start_left start board records f i b w r records' e₁ e₂ e₃ = record { whole = rw (e₃, e₂.whole, e₁) }
+
 -- a turn as far as it concerns its own worker
 pub steps_in :
-    (board : List ℕ) (records : List Worker) (index : List ℕ) (f : Floor) (i : ℕ) (w : Worker) (o : Tried)
+    (board : List ℕ) (records : List Worker) (index : List ℕ) (f : Floor) (i : ℕ) (w : Worker) (r : Result TurnDone Why)
     (board' : List ℕ) (records' : List Worker) (index' : List ℕ)
     → w ≡ record_in records i
-    → TurnKept board index (seat_in f records i) w board' index' o
-    → records' ≡ set records i o.worker
-    → (after board' (on_list records' o.said) ≡ step_in board records index f i) × (index' ≡ index_left index (answer_of o.said))
-steps_in board records index f i w o board' records' index' e₁ e₂ e₃ = (
-  put_back (λ (x : Tried). x.worker) (λ (x : Tried). x.said) (λ b s u. hall_try b index s u) board records f i w o board' records' e₁ e₂.whole e₃,
+    → TurnKept board index (seat_in f records i) w board' index' r
+    → records' ≡ set records i (tried_as w r).worker
+    → (after board' (on_list records' (tried_as w r).said) ≡ step_in board records index f i) × (index' ≡ index_left index (answer_of (tried_as w r).said))
+steps_in board records index f i w r board' records' index' e₁ e₂ e₃ = (
+  put_back (λ (x : Tried). x.worker) (λ (x : Tried). x.said) (λ b s u. hall_try b index s u) board records f i w (tried_as w r) board' records' e₁ e₂.whole
+      e₃,
   e₂.kept,
 )
 
@@ -96,6 +115,11 @@ says_in board records index f i board' between records' said count e₁ e₂ e�
     after y.words (on_list (firsts (beside i) (sleepers y.handed.answer.refusal (length records)) y.handed.records) y.handed.answer) in
     rw (e₃, e₂) (ap go e₁ ∙ ap (λ (ws : List Worker). after x.words (on_list ws x.handed.said)) (rest_sleep board records index f i))
 
+-- the answer that a turn says, whatever its place
+pub said_answer : (place : ℕ) (r : Result TurnTaken Why) → answer_of (said_as place r) ≡ answered_as r
+said_answer place (Ok d) = refl
+said_answer place (Err why) = rw (ne_eqb (number why) 0 (number_some why))
+
 -- a turn: what it says, told
 pub turn_left :
     (board : List ℕ) (records : List Worker) (index : List ℕ) (f : Floor) (i : ℕ) (board' : List ℕ) (records' : List Worker) (index' : List ℕ)
@@ -126,17 +150,18 @@ turn_left board records index f i board' records' index' said r e₁ e₂ =
 
 -- a retiring
 pub retire_left :
-    (board : List ℕ) (records : List Worker) (index : List ℕ) (f : Floor) (i : ℕ) (w : Worker) (o : Retired)
+    (board : List ℕ) (records : List Worker) (index : List ℕ) (f : Floor) (i : ℕ) (w : Worker) (r : Result Worker Why)
     (board' : List ℕ) (records' : List Worker) (index' : List ℕ)
     → w ≡ record_in records i
-    → RetireKept board index (seat_in f records i) w board' index' o
-    → records' ≡ set records i o.worker
-    → RetireLeft board records index f i board' records' index' o.refusal
-retire_left board records index f i w o board' records' index' e₁ e₂ e₃ =
+    → RetireKept board index (seat_in f records i) w board' index' r
+    → records' ≡ set records i (retired_as w r).worker
+    → RetireLeft board records index f i board' records' index' (result_number r)
+retire_left board records index f i w r board' records' index' e₁ e₂ e₃ =
     record {
       whole =
-          put_back (λ (x : Retired). x.worker) (λ (x : Retired). x.refusal) (λ b s u. hall_retire b index s u) board records f i w o board' records' e₁
-          e₂.whole e₃;
+          rw (← retired_told w r)
+          (put_back (λ (x : Retired). x.worker) (λ (x : Retired). x.refusal) (λ b s u. hall_retire b index s u) board records f i w (retired_as w r) board'
+          records' e₁ e₂.whole e₃);
       kept = rw (← e₁) e₂.kept;
       number = rw (← e₁) e₂.number;
     }
@@ -147,8 +172,10 @@ count_number_lem (Refusal number) = refl
 count_number_lem (Lots lots) = refl
 
 -- a count
-pub count_left : (board : List ℕ) (f : Floor) (c : Counted) (r : CountOutcome) → CountDone board f c → r ≡ count_told c → CountLeft board f r
-count_left board f c r done e = record { whole = e ∙ ap count_told done.whole; number = rw e (count_number_lem c ∙ done.number) }
+pub count_left :
+    (board : List ℕ) (f : Floor) (c : Result ℕ Why) (r : CountOutcome) → CountDone board f c → r ≡ count_told (counted_as c) → CountLeft board f r
+count_left board f c r done e =
+    record { whole = e ∙ ap count_told done.whole; number = rw e (count_number_lem (counted_as c) ∙ counted_told c ∙ done.number) }
 
 -- so is that of a total's answer
 total_number : (t : Totalled) → (total_told t).refusal ≡ totalled_number t
@@ -157,8 +184,12 @@ total_number (Totalled.Slots slots) = refl
 
 -- a total
 pub total_left :
-    (board index : List ℕ) (f : Floor) (t : Totalled) (r : TotalOutcome) → TotalTold board index f t → r ≡ total_told t → TotalLeft board index f r
-total_left board index f t r told e = record { whole = e ∙ ap total_told told.whole; number = rw e (total_number t ∙ told.number) }
+    (board index : List ℕ) (f : Floor) (t : Result ℕ Why) (r : TotalOutcome)
+    → TotalTold board index f t
+    → r ≡ total_told (totalled_as t)
+    → TotalLeft board index f r
+total_left board index f t r told e =
+    record { whole = e ∙ ap total_told told.whole; number = rw e (total_number (totalled_as t) ∙ totalled_told t ∙ told.number) }
 
 -- and that of a next bucket's answer
 next_number_lem : (n : Next) → (next_told n).refusal ≡ next_number n
@@ -168,8 +199,9 @@ next_number_lem (Next.Bucket b) = refl
 
 -- a next occupied bucket
 pub next_left :
-    (board index : List ℕ) (f : Floor) (from : ℕ) (n : Next) (r : NextOutcome)
+    (board index : List ℕ) (f : Floor) (from : ℕ) (n : Result (Option ℕ) Why) (r : NextOutcome)
     → NextTold board index f from n
-    → r ≡ next_told n
+    → r ≡ next_told (next_as n)
     → NextLeft board index f from r
-next_left board index f from n r told e = record { whole = e ∙ ap next_told told.whole; number = rw e (next_number_lem n ∙ told.number) }
+next_left board index f from n r told e =
+    record { whole = e ∙ ap next_told told.whole; number = rw e (next_number_lem (next_as n) ∙ next_told_lem n ∙ told.number) }

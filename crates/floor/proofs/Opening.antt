@@ -11,7 +11,10 @@ use Rattle.turn.specs.Worker.{idle}
 use Rattle.turn.specs.Turn.{After, after}
 use Rattle.engine.specs.declared.Floor.{Floor}
 use Rattle.engine.specs.declared.Plan.{Plan}
-use Rattle.engine.specs.Calls.{Laid}
+use Rattle.std.proofs.Common.{Result}
+use Rattle.turn.specs.declared.refusal.Refusal.{Refusal}
+use Rattle.engine.specs.Calls.{Laid, laid_as}
+use Rattle.engine.proofs.Answers.{laid_told}
 use Rattle.engine.specs.Board.{opened_board}
 use Rattle.engine.specs.Calls.{Opened, planned}
 use Rattle.engine.specs.Firsts.{firsts}
@@ -53,10 +56,13 @@ module _ (board index : List ℕ) (f : Floor) (ys : List Worker) (p : Plan) wher
 
 -- the promise, from what the calls say
 pub open_left :
-    (board : List ℕ) (ys : List Worker) (index : List ℕ) (f : Floor) (p : Plan) (board' index' : List ℕ) (laid : Laid) (w : Worker) (ys' : List Worker)
-    → FloorKept board index f (length ys) p board' index' laid
-    → w ≡ idle
-    → ys' ≡ firsts (λ k old. w) laid.idle ys
+    (board : List ℕ) (ys : List Worker) (index : List ℕ) (f : Floor) (p : Plan) (board' index' : List ℕ) (r : Result Floor Refusal) (ys' : List Worker)
+    → FloorKept board index f (length ys) p board' index' r
+    → let laid = laid_as f (length ys) r in
+    ys' ≡ firsts (λ k old. idle) laid.idle ys
     → FloorOpened board ys index f p board' ys' index' (record { refusal = laid.refusal; floor = laid.floor })
-open_left board ys index f p board' index' laid w ys' e₁ is e₂ =
-    record { whole = rw (e₂, is) (ap (on_records board index f ys p) e₁.whole ∙ opened_on_list board index f ys p); kept = e₁.kept }
+open_left board ys index f p board' index' r ys' e₁ e₂ =
+    record {
+      whole = rw e₂ (ap (on_records board index f ys p) e₁.whole ∙ opened_on_list board index f ys p);
+      kept = rw (laid_told f (length ys) r) e₁.kept;
+    }

@@ -1,4 +1,5 @@
--- The walk of every start on the lent list, whatever it brings and whatever its core is:
+-- The walk of every start on the lent list, whatever it brings, whatever its core is, and whatever struct of a record, a floor and a number that
+-- hands back:
 --     fn start(board: &[u64], records: &mut [Worker], floor: Floor, worker: usize, what: B) -> Outcome {
 --         let listed = records.len(); let w = take_at(records, worker); let seat = Seat { floor, listed, worker };
 --         let done = CORE(board, seat, w, what); put_at(records, worker, done.worker); Outcome { floor: done.floor, refusal: done.refusal } }
@@ -8,7 +9,7 @@ use Prim.Native.Nat.{ℕ, ◌*◌}
 use mathlib.Core.List.{List, [], ◌∷◌}
 use lib.ListN.{set}
 use seplogic.Ra.Ura.{Ura}
-use mir.Syntax.{Callee, Fn, named, erased, imm, mut, w64, ty_int, ty_unit, local, value_local, place, field, deref, copy, seq, assign, call, rv_opd, addr_of, aggregate, return}
+use mir.Syntax.{Callee, Fn, Sym, Ty, named, erased, imm, mut, w8, w64, ty_int, ty_unit, ty_struct, tnil, tcons, local, value_local, place, field, deref, copy, seq, assign, call, rv_opd, addr_of, aggregate, return}
 use base.Logic.{SProp, emp, id⊢}
 use base.Fml.{ftrue, flft}
 use prog.Memory.{Memory}
@@ -20,8 +21,10 @@ use types.Kit.{‵, ◌⊛◌, ◌$◌, ◌∵◌, !, qed, move, keep, use1, spl
 use types.Run.{look, init, of_opd, and_then, no_more, returns, enter, alloc1, alloc0, params1, pass1, pass0}
 use types.Part.{agg}
 use sound.WpLaws.{fm_of}
-use denote.RattleType.{owns}
-use denote.Laws.{Is}
+use mir.Val.{Val, vstruct, vcons, vnil, vint, WT, has_ty}
+use lib.Dec.{T}
+use denote.RattleType.{RattleType, owns}
+use denote.Laws.{Is, Tells}
 use denote.Plain.{uint_vals, uint_Tells, uint_row_laws}
 use denote.Builtin.{u64, usize, SliceRefOf, SliceRefMutOf}
 use denote.Slice.{slice_ty, MutSlice, ShrSlice, mut_slice_vals, shr_slice_vals, mut_slice_Tells, shr_slice_Tells, shr_slice_copy}
@@ -39,20 +42,18 @@ use Rattle.engine.specs.declared.Seat.{Seat}
 use Rattle.engine.specs.Calls.{Started}
 use Rattle.floor.specs.Told.{start_told}
 use Rattle.engine.specs.Calls.{record_in, seat_in}
-use Rattle.engine.specs.Promises.{StartDone}
 use Rattle.floor.specs.Promises.{StartLeft}
+use Rattle.turn.specs.contracts.Worker as T
 use Rattle.turn.proofs.Worker.TheLaws as T'
 use Rattle.engine.specs.contracts.Floor as F
 use Rattle.engine.proofs.Floor.TheLaws as F'
 use Rattle.engine.specs.contracts.Seat as S
 use Rattle.engine.proofs.Seat.TheLaws as S'
-use Rattle.engine.specs.contracts.Started as O
-use Rattle.engine.proofs.Started.TheLaws as O'
 use Rattle.floor.specs.contracts.Outcome as N
 use Rattle.floor.proofs.Outcome.TheLaws as N'
 use Rattle.floor.proofs.Plain.{Plain, still_last, still_silent}
 use Rattle.floor.proofs.Walk.{walk_closes, pointer, var, sets, gets, loc, gone, full, span, arg, cited_call, relends, part}
-use Rattle.floor.proofs.Records.{row, vals, typed, arg_worker, seat_vals, seat_is, seat_typed, arg_seat}
+use Rattle.floor.proofs.Records.{row, val, vals, typed, arg_worker, seat_vals, seat_is, seat_typed, arg_seat}
 use Rattle.floor.proofs.Leaves.{Takes, Puts, take_call, put_call}
 use Rattle.floor.proofs.list.take_at.Symbol as take-def
 use Rattle.floor.proofs.list.put_at.Symbol as put-def
@@ -60,10 +61,29 @@ use Rattle.floor.proofs.list.put_at.Symbol as put-def
 -- what the calls of a start say is what the start is
 start_is : {B : Type 0} (start : List ℕ → Seat → Worker → B → Started) (bs : List ℕ) (ys : List Worker) (f : Floor) (i : ℕ) (b : B) (w : Worker)
     (o : Started) (us : List Worker)
-    → w ≡ record_in ys i → StartDone start bs (seat_in f ys i) w b o → us ≡ set ys i o.worker → StartLeft start bs ys f i b us (start_told o)
-start_is start bs ys f i b w o us e₁ e₂ e₃ = record { whole = rw (e₃, e₂.whole, e₁) }
+    → w ≡ record_in ys i → o ≡ start bs (seat_in f ys i) w b → us ≡ set ys i o.worker → StartLeft start bs ys f i b us (start_told o)
+start_is start bs ys f i b w o us e₁ e₂ e₃ = record { whole = rw (e₃, e₂, e₁) }
 
-module _ (B : Plain) where
+-- ---- what a core hands back: a struct of three fields, the worker's record, the floor and the number of refusal. As the machine has it:
+abbrev three_ty : Sym → Ty
+three_ty name = ty_struct name (tcons T'.mir (tcons F'.mir (tcons (ty_int w8) tnil)))
+
+abbrev three_val : Started → Val
+three_val s = vstruct (vcons (val s.worker) (vcons (LL.val F.the_type F'.the_laws s.floor) (vcons (vint w8 s.refusal) vnil)))
+
+pub record Handed : Type 2 where
+  pub row : RattleType
+  pub name : Sym
+  pub started : row.Denot → Started
+  pub tells : Tells row (Is row) (λ o. three_val (started o) ∷ [])
+  pub typed : {M : Type 1} {𝓤 : Ura M} (𝓛 : Logic 𝓤) → (o : row.Denot)
+      → let v = three_val (started o) in Is row o (v ∷ []) → T (has_ty (three_ty name) v) × WT v
+  pub apart : (o : row.Denot) → Is row o (three_val (started o) ∷ [])
+      → Is T.the_row (started o).worker (vals (started o).worker)
+      × (Is F.the_row (started o).floor (LL.vals F.the_type F'.the_laws (started o).floor)
+      × Is N.the_row (start_told (started o)) (LL.vals N.the_type N'.the_laws (start_told (started o))))
+
+module _ (B : Plain) (O : Handed) where
   -- what the core computes
   abbrev pub Core : Type 0
   Core = List ℕ → Seat → Worker → B.row.Denot → Started
@@ -74,7 +94,7 @@ module _ (B : Plain) where
       lifetimes = 1;
       outlives = [];
       params = SliceRefOf (0 ∷ []) tt (plain (λ _. u64)) (λ _. tt) ∷ plain (λ _. S.the_row) ∷ plain (λ _. row) ∷ plain (λ _. B.row) ∷ [];
-      result = plain (λ _. O.the_row);
+      result = plain (λ _. O.row);
     };
     kept = (yes, (yes, (yes, (yes, tt))));
   }
@@ -94,7 +114,7 @@ module _ (B : Plain) where
   -- the core's contract, and the function's own
   abbrev pub inner : {M : Type 1} (𝓤 : Ura M) → Core → Clauses 𝓤 core_ended
   inner 𝓤 core κs a = record
-      { ghost = Unit {0}; requires = λ _. emp 𝓤; ensures = λ _ r e. fact 𝓤 (StartDone core a.0.now a.1.0 a.1.1.0 a.1.1.1.0 r) }
+      { ghost = Unit {0}; requires = λ _. emp 𝓤; ensures = λ _ r e. fact 𝓤 (O.started r ≡ core a.0.now a.1.0 a.1.1.0 a.1.1.1.0) }
 
   abbrev pub outer : {M : Type 1} (𝓤 : Ura M) → Core → Clauses 𝓤 ended
   outer 𝓤 core κs a = record {
@@ -113,7 +133,7 @@ module _ (B : Plain) where
     params = 5;
     locals = local N'.mir value_local ∷ local (slice_ty (pointer (named 0) imm u64)) value_local ∷ local (slice_ty (pointer (named 1) mut row)) value_local
         ∷ local F'.mir value_local ∷ local (ty_int w64) value_local ∷ local B.ty value_local
-        ∷ local (ty_int w64) value_local ∷ local T'.mir value_local ∷ local S'.mir value_local ∷ local O'.mir value_local
+        ∷ local (ty_int w64) value_local ∷ local T'.mir value_local ∷ local S'.mir value_local ∷ local (three_ty O.name) value_local
         ∷ local (pointer erased imm row) value_local ∷ local (slice_ty (pointer erased imm row)) value_local
         ∷ local ty_unit value_local ∷ local (pointer erased mut row) value_local ∷ local (slice_ty (pointer erased mut row)) value_local
         ∷ local T'.mir value_local ∷ local F'.mir value_local ∷ [];
@@ -192,27 +212,27 @@ module _ (B : Plain) where
         ((κs.0, tt), (qs.0, tt), tt, (a.0, (seat, (w, (b, tt)))), (shr_slice_vals a.0, (seat_vals seat, (vals w, (B.val b ∷ [], tt))))),
         tt,
       ) (id⊢ 𝓤 _)
-      (‵ (flft κs.0 qs.0) ⊛ ‵ ftrue) refl (LL.val O.the_type O'.the_laws) (LL.tells O.the_type O'.the_laws) (λ r _. StartDone core bs seat w b r)
+      (‵ (flft κs.0 qs.0) ⊛ ‵ ftrue) refl (λ o. three_val (O.started o)) O.tells (λ r _. O.started r ≡ core bs seat w b)
       (λ r _. refl)
       (and_then ! (var ! (v 5 1) refl) (and_then ! (var ! (v 5 8) refl) (and_then ! (var ! (v 5 7) refl)
       (and_then ! (var ! (v 5 5) refl) (no_more !))))) (λ o _ o_is e₂.
       -- [κ₀'s token and true; nothing; what the board owns; what the list owns; κ₁'s token; what the plain ones own; _16; …]
-      let fields = LL.owed O.the_type O'.the_laws o _ o_is in
-      let told_is : Is N.the_row (start_told o) (LL.vals N.the_type N'.the_laws (start_told o)) =
-      LL.owes N.the_type N'.the_laws (start_told o) (fields.1.0, (fields.1.1.0, tt)) in
-      gets ! (v 6 9) refl ((LL.lawful O.the_type O'.the_laws 𝓛).typed o _ o_is).0 $
+      let s = O.started o in
+      let fields = O.apart o o_is in
+      let told_is = fields.1.1 in
+      gets ! (v 6 9) refl (O.typed 𝓛 o o_is) $
       relends ! (v 6 2) (v 6 13) (v 6 14) refl are.1.0.0.1.0 $
-      sets ! (of_opd ! (part ! (v 6 9) 0 refl)) (v 6 15) refl (typed 𝓛 o.worker fields.0) $
-      move ! (3 ∷ 4 ∷ []) $ put_call ! mem run (fm_of 𝓤 𝓛.H 𝓛.laws 𝓣) puts a.1.0 (only (mut_slice_vals a.1.0)) i are.1.1.1.0.1 o.worker fields.0
+      sets ! (of_opd ! (part ! (v 6 9) 0 refl)) (v 6 15) refl (typed 𝓛 s.worker fields.0) $
+      move ! (3 ∷ 4 ∷ []) $ put_call ! mem run (fm_of 𝓤 𝓛.H 𝓛.laws 𝓣) puts a.1.0 (only (mut_slice_vals a.1.0)) i are.1.1.1.0.1 s.worker fields.0
       (and_then ! (var ! (v 5 14) refl)
       (and_then ! (var ! (v 5 4) refl) (and_then ! (var ! (v 5 15) refl) (no_more !))))
       (λ us same e₃.
       -- [κ₁'s token; what the list leaves; κ₀'s token and true; nothing; what the board owns; what the plain ones own; _16; …]
       gets ! (v 6 12) refl (tt, tt) $
-      sets ! (of_opd ! (part ! (v 6 9) 1 refl)) (v 6 16) refl ((LL.lawful F.the_type F'.the_laws 𝓛).typed o.floor _ fields.1.0).0 $
+      sets ! (of_opd ! (part ! (v 6 9) 1 refl)) (v 6 16) refl ((LL.lawful F.the_type F'.the_laws 𝓛).typed s.floor _ fields.1.0).0 $
       sets ! (agg ! (and_then ! (var ! (v 6 16) refl)
       (and_then ! (part ! (v 6 9) 2 refl) (no_more !)))) (v 6 0) refl
-      ((LL.lawful N.the_type N'.the_laws 𝓛).typed (start_told o) _ told_is).0 $
+      ((LL.lawful N.the_type N'.the_laws 𝓛).typed (start_told s) _ told_is).0 $
       returns ! (look ! (v 6 0) refl) $ keep ! (span 6 (2 * 17) (2 ∷ 0 ∷ 1 ∷ 4 ∷ 5 ∷ [])) $
       gone ! (
         full _,
@@ -221,6 +241,6 @@ module _ (B : Plain) where
       -- [κ₀'s token and true; κ₁'s token; what the list leaves; what the board owns; what the plain ones own]
       move ! (2 ∷ 4 ∷ []) $ fjoin ! $ move ! (3 ∷ 0 ∷ []) $ fjoin ! $ move ! (1 ∷ []) $ split ! $ move ! (3 ∷ 1 ∷ []) $ join ! $ move ! (1 ∷ 0 ∷ []) $
       join ! $
-      suffices ! _ (ends (LL.val N.the_type N'.the_laws (start_told o)) (start_told o) (tt, (us, (tt, (tt, (still_last B.row B.still b, tt)))))
-      (tt, (same, (tt, (tt, (tt, tt)))))) $ says ! (start_is core bs ys f i b w o us e₁ e₂ e₃) $ frame ! $ frame ! $
-      owned ! N.the_row (Is N.the_row) (LL.makes N.the_type N'.the_plain 𝓛) (start_told o) _ told_is $ done !)))))))))))))))))))))
+      suffices ! _ (ends (LL.val N.the_type N'.the_laws (start_told s)) (start_told s) (tt, (us, (tt, (tt, (still_last B.row B.still b, tt)))))
+      (tt, (same, (tt, (tt, (tt, tt)))))) $ says ! (start_is core bs ys f i b w s us e₁ e₂ e₃) $ frame ! $ frame ! $
+      owned ! N.the_row (Is N.the_row) (LL.makes N.the_type N'.the_plain 𝓛) (start_told s) _ told_is $ done !)))))))))))))))))))))

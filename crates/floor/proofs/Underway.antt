@@ -8,7 +8,11 @@ use native.Mathlib.Numerals.{add-one}
 use lib.Dec.{eqb, ltb}
 use lib.ListN.{length, get_or, drop}
 use lib.Seq.{drop-cons}
-use borrow.Author.Tests.{eqb-true, eqb-false, lt-ltb, ltb-false}
+use borrow.Author.Tests.{eqb-true, eqb-false, eq-eqb, ne_eqb, lt-ltb, ltb-false}
+use Rattle.std.proofs.Common.{Ok, Err}
+use Rattle.turn.specs.declared.refusal.Refusal.{Refusal}
+use Rattle.turn.specs.Number.{number as number_of_why}
+use Rattle.turn.proofs.Refusing.{number_some}
 use Rattle.mark.proofs.Choices.{passes, by_cases}
 use Rattle.turn.specs.declared.Worker.{Worker}
 use Rattle.turn.specs.Turn.{Said}
@@ -20,14 +24,14 @@ use Rattle.turn.specs.Places.{Step, turn}
 use Rattle.engine.specs.declared.Floor.{Floor}
 use Rattle.engine.specs.Refusals.{wrong_sizes, bucket_for}
 use Rattle.engine.specs.Room.{Few}
-use Rattle.engine.specs.Calls.{Ran, report_on, record_in, turn_done, tried, after_turn, records_left, no_turns, standing, unbegun}
+use Rattle.engine.specs.Calls.{Ran, report_on, record_in, turn_done, tried, after_turn, records_left, no_turns, tallied, capped_totals, standing, unbegun}
 use Rattle.engine.proofs.Few.{few_more, few_exact}
 use Rattle.hall.specs.Refusals.{wrong_index, hall_each_number, hall_turn_number, hall_run_refusal, hall_run_number}
 use Rattle.hall.specs.Calls.{hall_try, index_left, Indexed, indexed, hall_run_from, hall_run}
-use Rattle.floor.specs.declared.run.Running.{Running}
-use Rattle.floor.specs.Running.{begun, gone_on}
+use Rattle.floor.specs.Running.{Running, begun, gone_on}
 use Rattle.floor.specs.Told.{run_told}
-use Rattle.floor.specs.Calls.{OnList, on_list, say_in, ran_told}
+use Rattle.floor.specs.declared.list.Done.{Done}
+use Rattle.floor.specs.Calls.{OnList, on_list, said_as, say_in, ran_told}
 use Rattle.floor.specs.Promises.{RunLeft}
 use Rattle.hall.proofs.Plain.{hall_each_is}
 use Rattle.hall.proofs.Stops.{run_over, next_done, next_refused}
@@ -213,3 +217,49 @@ module _ (f : Floor) (ts : List ℕ) where
               ap (λ (x : Indexed (After Ran)). indexed x.index (ran_told x.left))
               (sym (run_over f ts r.at _ (omega (arith, under.end))) ∙ under.comes);
         }
+
+    -- ---- as the code has it
+
+    -- one that is refused as a whole
+    pub stops_whole : (n : ℕ) → (n ≡ 0 → ⊥) → n ≡ number → RunLeft first ys entries f ts first ys entries (run_told no_report no_turns n)
+    stops_whole n some is =
+        rw is
+        (over (record { totals = no_turns; at = length ts; end = length ts; last = no_report; stop = number }) first ys entries
+        (begun_either false (ne_eqb number 0 (λ none. some (is ∙ none)))) (omega arith))
+
+    -- and one that is not, before its first turn
+    pub starts :
+        ◌≡◌ {A = ℕ} 0 number → Underway (record { totals = no_turns; at = 0; end = length ts; last = no_report; stop = 0 }) first ys entries
+    starts none = begun_either true (eq-eqb number 0 (sym none))
+
+    module _ (r : Running) (board : List ℕ) (records : List Worker) (index : List ℕ) (under : Underway r board records index) (less : r.at < r.end)
+        (place : ℕ) (board' : List ℕ) (records' : List Worker) (index' : List ℕ) (same₀ : length board' ≡ length board)
+        (same₁ : length records' ≡ length records) (same₂ : length index' ≡ length index) where
+      -- whose turn it is
+      abbrev whose : ℕ
+      whose = get_or ts r.at 0
+
+      -- a turn that is done
+      pub counts :
+          (d : Done)
+          → after board' (on_list records' (said_as place (Ok d))) ≡ say_in board records index f whose
+          → index' ≡ index_left index (answer_of (said_as place (Ok d)))
+          → Underway
+          (record { totals = capped_totals (tallied d.place d.report r.totals); at = r.at + 1; end = r.end; last = d.report; stop = 0 }) board' records'
+          index'
+      unfolding gone_on
+      counts d e follows =
+          rw (lt-ltb r.at r.end less) at (goes_on r board records index under less (said_as place (Ok d)) board' records' index' e follows same₀ same₁ same₂)
+
+      -- and one that is refused
+      pub stops_at :
+          (why : Refusal)
+          → after board' (on_list records' (said_as place (Err why))) ≡ say_in board records index f whose
+          → index' ≡ index_left index (answer_of (said_as place (Err why)))
+          → RunLeft first ys entries f ts board' records' index' (run_told r.last r.totals (number_of_why why))
+      unfolding gone_on
+      stops_at why e follows =
+          let stopped =
+          rw (ne_eqb (number_of_why why) 0 (number_some why)) at
+          (goes_on r board records index under less (said_as place (Err why)) board' records' index' e follows same₀ same₁ same₂) in
+          over (record { totals = r.totals; at = r.end; end = r.end; last = r.last; stop = number_of_why why }) board' records' index' stopped (omega arith)

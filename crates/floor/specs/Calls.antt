@@ -1,14 +1,16 @@
 -- The calls on the lent list: what they leave on the board and in the list, and what they answer. An opening is the hall's hallOpen on
 -- the list; what is left of the index is the hall's too, but for a run.
-use Rattle.std.specs.Prelude.{ℕ, cond, List, eqb, length, set}
+use Rattle.std.specs.Prelude.{ℕ, cond, List, eqb, length, set, Result, Ok, Err}
 use Rattle.turn.specs.declared.Worker.{Worker}
-use Rattle.turn.specs.Turn.{Said}
-use Rattle.turn.specs.Turn.{After, after, answer_of}
+use Rattle.turn.specs.declared.refusal.Refusal.{Refusal as Why}
+use Rattle.turn.specs.Number.{number}
+use Rattle.turn.specs.Turn.{Answer, Refused, Done, Said, After, after, no_report, answer_of}
 use Rattle.engine.specs.declared.Floor.{Floor}
 use Rattle.engine.specs.declared.Seat.{Seat}
 use Rattle.engine.specs.Calls.{Started}
 use Rattle.engine.specs.Calls.{Ran, record_in, seat_in, records_left}
 use Rattle.hall.specs.Calls.{hall_try, hall_turn, hall_retire, Indexed, indexed, hall_run}
+use Rattle.floor.specs.declared.list.Done.{Done as TurnDone}
 use Rattle.floor.specs.declared.Outcome.{Outcome}
 use Rattle.floor.specs.declared.TurnOutcome.{TurnOutcome}
 use Rattle.floor.specs.declared.RunOutcome.{RunOutcome}
@@ -28,6 +30,16 @@ abbrev pub start_in : (Seat → Worker → Started) → List Worker → Floor �
 start_in start records f i =
     let x = start (seat_in f records i) (record_in records i) in
     on_list (set records i x.worker) (start_told x)
+
+-- what a turn says that has this answer, tried at this place
+abbrev pub said_as : ℕ → Result TurnDone Why → Said
+said_as place (Ok d) = record { report = d.report; refusal = 0; place = d.place }
+said_as place (Err why) = record { report = no_report; refusal = number why; place = place }
+
+-- and the answer in it
+abbrev pub answered_as : Result TurnDone Why → Answer
+answered_as (Ok d) = Done d.report
+answered_as (Err why) = Refused (number why)
 
 -- one turn as far as it concerns its own worker: the record goes back into the list
 abbrev pub step_in : List ℕ → List Worker → List ℕ → Floor → ℕ → After (OnList Said)

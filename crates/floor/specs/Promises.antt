@@ -7,7 +7,7 @@ use Rattle.engine.specs.declared.Floor.{Floor}
 use Rattle.engine.specs.declared.Plan.{Plan}
 use Rattle.engine.specs.declared.Seat.{Seat}
 use Rattle.engine.specs.Calls.{Started}
-use Rattle.engine.specs.Refusals.{count_number}
+use Rattle.engine.specs.Refusals.{show_number, count_number}
 use Rattle.engine.specs.Calls.{record_in, seat_in, show_call, show_start, count_call}
 use Rattle.engine.specs.Move.{rest_number}
 use Rattle.hall.specs.Refusals.{hall_turn_number, hall_retire_number, hall_move_number, question_number}
@@ -64,6 +64,10 @@ pub record MoveLeft (old board : List ℕ) (records : List Worker) (index : List
 pub record PartShown (board : List ℕ) (f : Floor) (lot : ℕ) (p : Part) : Type 0 where
   pub start : p.start ≡ show_start board f lot
   pub words : p.words ≡ length (show_call board f lot)
+
+-- the number of refusal of a show, or 0
+pub record ShowNumbered (board : List ℕ) (f : Floor) (lot r : ℕ) : Type 0 where
+  pub whole : r ≡ show_number f board lot
 
 -- a count
 pub record CountLeft (board : List ℕ) (f : Floor) (r : CountOutcome) : Type 0 where

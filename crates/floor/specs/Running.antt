@@ -5,7 +5,17 @@ use Rattle.turn.specs.Turn.{no_report}
 use Rattle.engine.specs.declared.Floor.{Floor}
 use Rattle.hall.specs.Refusals.{hall_run_refusal}
 use Rattle.engine.specs.Calls.{no_turns, tallied, capped_totals}
-use Rattle.floor.specs.declared.run.Running.{Running}
+use Rattle.turn.specs.declared.Report.{Report}
+use Rattle.engine.specs.declared.Totals.{Totals}
+
+-- how far it has come: what the turns done come to, the number of the turn that is next and of the last one's next, the last turn's report, and the
+-- number that stopped it, or 0
+pub record Running : Type 0 where
+  pub totals : Totals
+  pub at : ℕ
+  pub end : ℕ
+  pub last : Report
+  pub stop : ℕ
 
 -- before its first turn; at its end where it is refused as a whole
 unfoldable pub begun : Floor → ℕ → ℕ → ℕ → ℕ → Running

@@ -3,15 +3,14 @@
 // them by crate floor_c, under these names: include/desk.h.
 #![tactic(auto)]
 
-ghost use Rattle.engine.specs.Calls.{look_call, insert_call, remove_call};
-ghost use Rattle.engine.specs.Promises.{Shown, ShowTested};
-ghost use Rattle.floor.specs.Promises.{FloorOpened, StartLeft, TurnLeft, RetireLeft, RunLeft, MoveLeft, PartShown, CountLeft, TotalLeft, NextLeft};
+ghost use Rattle.engine.specs.Calls.{asked_call};
+ghost use Rattle.engine.specs.Promises.{Shown};
+ghost use Rattle.floor.specs.Promises.{FloorOpened, StartLeft, TurnLeft, RetireLeft, RunLeft, MoveLeft, PartShown, ShowNumbered, CountLeft, TotalLeft, NextLeft};
 
-use engine::{Bid, Floor, Plan, Seat, Totals};
-use turn::{Worker, record};
+use engine::{Asked, Floor, Plan, Seat, Totals, tally};
+use turn::{Worker, record, refusal};
 
 mod list; // records out of the list and back, and a turn of one of them
-mod run; // a run that is under way
 mod told; // answers that cross to C
 
 // For all orders, which reads the list in a crate of its own (decision 132).
@@ -19,7 +18,7 @@ pub use list::take_at;
 
 // The floor as it now stands, and the number of refusal, or 0.
 #[repr(C)]
-#[derive(Clone, Copy)]
+#[derive(Clone, Copy, Debug, PartialEq, Eq, Hash)]
 pub struct Outcome {
     pub floor: Floor,
     pub refusal: u8,
@@ -28,7 +27,7 @@ pub struct Outcome {
 // §14.9: a turn's report in numbers: whether the call ended and with which answer, the bucket with its mark word before the turn and after
 // it, the action (1 read, 2 store, 3 won, 4 lost; 0 where the turn was refused), and whether it was a full round.
 #[repr(C)]
-#[derive(Clone, Copy)]
+#[derive(Clone, Copy, Debug, PartialEq, Eq, Hash)]
 pub struct ReportOutcome {
     pub answer: u64,
     pub before: u64,
@@ -41,7 +40,7 @@ pub struct ReportOutcome {
 
 // A turn's report, and the number of refusal, or 0.
 #[repr(C)]
-#[derive(Clone, Copy)]
+#[derive(Clone, Copy, Debug, PartialEq, Eq, Hash)]
 pub struct TurnOutcome {
     pub report: ReportOutcome,
     pub refusal: u8,
@@ -49,7 +48,7 @@ pub struct TurnOutcome {
 
 // The last turn's report, what the turns done come to, and the number that stopped the run, or 0.
 #[repr(C)]
-#[derive(Clone, Copy)]
+#[derive(Clone, Copy, Debug, PartialEq, Eq, Hash)]
 pub struct RunOutcome {
     pub last: ReportOutcome,
     pub totals: Totals,
@@ -58,7 +57,7 @@ pub struct RunOutcome {
 
 // So many words of the lent board, from this one on.
 #[repr(C)]
-#[derive(Clone, Copy)]
+#[derive(Clone, Copy, Debug, PartialEq, Eq, Hash)]
 pub struct Part {
     pub start: usize,
     pub words: usize,
@@ -66,7 +65,7 @@ pub struct Part {
 
 // The lots on the board, and the number of refusal, or 0.
 #[repr(C)]
-#[derive(Clone, Copy)]
+#[derive(Clone, Copy, Debug, PartialEq, Eq, Hash)]
 pub struct CountOutcome {
     pub lots: usize,
     pub refusal: u8,
@@ -74,7 +73,7 @@ pub struct CountOutcome {
 
 // §21.3: the number of valid slots that the index has, and the number of refusal, or 0.
 #[repr(C)]
-#[derive(Clone, Copy)]
+#[derive(Clone, Copy, Debug, PartialEq, Eq, Hash)]
 pub struct TotalOutcome {
     pub total: u64,
     pub refusal: u8,
@@ -82,7 +81,7 @@ pub struct TotalOutcome {
 
 // §21.4: whether there is a next occupied bucket, and which, and the number of refusal, or 0.
 #[repr(C)]
-#[derive(Clone, Copy)]
+#[derive(Clone, Copy, Debug, PartialEq, Eq, Hash)]
 pub struct NextOutcome {
     pub bucket: usize,
     pub found: bool,
@@ -99,88 +98,45 @@ pub fn desk_open_floor(
 ) -> Outcome
     ensures { FloorOpened board.old records.old index.old floor plan board.new records.new index.new result }
 {
-    let listed = records.len();
-    let laid = hall::open_floor(board, index, floor, listed, plan);
-    let idle = record::idle();
-    list::put_all(records, idle, laid.idle);
-    Outcome {
-        floor: laid.floor,
-        refusal: laid.refusal,
+    match hall::open_floor(board, index, floor, records.len(), plan) {
+        Ok(floor) => {
+            records.fill(record::idle());
+            Outcome { floor, refusal: 0 }
+        }
+        Err(why) => Outcome {
+            floor,
+            refusal: why.into(),
+        },
     }
 }
 
-// §1.1: starts a look on a worker.
-pub fn desk_start_look(
+// §1.1, §3.4: starts a look, an insert or a remove on a worker.
+pub fn desk_start(
     board: &[u64],
     records: &mut [Worker],
     floor: Floor,
     worker: usize,
-    lot: u64,
+    asked: Asked,
 ) -> Outcome
-    ensures { StartLeft look_call board.now records.old floor worker lot records.new result }
+    ensures { StartLeft asked_call board.now records.old floor worker asked records.new result }
 {
-    let listed = records.len();
-    let w = list::take_at(records, worker);
     let seat = Seat {
         floor,
-        listed,
+        listed: records.len(),
         worker,
     };
-    let done = engine::start_look(board, seat, w, lot);
-    list::put_at(records, worker, done.worker);
-    Outcome {
-        floor: done.floor,
-        refusal: done.refusal,
-    }
-}
-
-// §1.1: starts an insert on a worker.
-pub fn desk_start_insert(
-    board: &[u64],
-    records: &mut [Worker],
-    floor: Floor,
-    worker: usize,
-    bid: Bid,
-) -> Outcome
-    ensures { StartLeft insert_call board.now records.old floor worker bid records.new result }
-{
-    let listed = records.len();
-    let w = list::take_at(records, worker);
-    let seat = Seat {
-        floor,
-        listed,
-        worker,
-    };
-    let done = engine::start_insert(board, seat, w, bid);
-    list::put_at(records, worker, done.worker);
-    Outcome {
-        floor: done.floor,
-        refusal: done.refusal,
-    }
-}
-
-// §1.1: starts a remove on a worker.
-pub fn desk_start_remove(
-    board: &[u64],
-    records: &mut [Worker],
-    floor: Floor,
-    worker: usize,
-    lot: u64,
-) -> Outcome
-    ensures { StartLeft remove_call board.now records.old floor worker lot records.new result }
-{
-    let listed = records.len();
-    let w = list::take_at(records, worker);
-    let seat = Seat {
-        floor,
-        listed,
-        worker,
-    };
-    let done = engine::start_remove(board, seat, w, lot);
-    list::put_at(records, worker, done.worker);
-    Outcome {
-        floor: done.floor,
-        refusal: done.refusal,
+    match engine::start(board, seat, take_at(records, worker), asked) {
+        Ok(begun) => {
+            list::put_at(records, worker, begun.worker);
+            Outcome {
+                floor: begun.floor,
+                refusal: 0,
+            }
+        }
+        Err(why) => Outcome {
+            floor,
+            refusal: why.into(),
+        },
     }
 }
 
@@ -194,8 +150,7 @@ pub fn desk_turn(
 ) -> TurnOutcome
     ensures { TurnLeft board.old records.old index.old floor worker board.new records.new index.new result }
 {
-    let said = list::turn_at(board, records, index, floor, worker);
-    told::turn(said)
+    told::turn(list::turn_at(board, records, index, floor, worker))
 }
 
 // §1.1: retires a worker; the number of refusal, or 0.
@@ -208,16 +163,18 @@ pub fn desk_retire(
 ) -> u8
     ensures { RetireLeft board.old records.old index.old floor worker board.new records.new index.new result }
 {
-    let listed = records.len();
-    let w = list::take_at(records, worker);
     let seat = Seat {
         floor,
-        listed,
+        listed: records.len(),
         worker,
     };
-    let done = hall::retire(board, index, seat, w);
-    list::put_at(records, worker, done.worker);
-    done.refusal
+    match hall::retire(board, index, seat, take_at(records, worker)) {
+        Ok(retired) => {
+            list::put_at(records, worker, retired);
+            0
+        }
+        Err(why) => why.into(),
+    }
 }
 
 // §1.1: runs a list of turns, each a worker's number, until one is refused.
@@ -230,18 +187,22 @@ pub fn desk_run(
 ) -> RunOutcome
     ensures { RunLeft board.old records.old index.old floor turns.now board.new records.new index.new result }
 {
-    let words = board.len();
-    let listed = records.len();
-    let entries = index.len();
-    let count = turns.len();
-    let mut run = run::begin(floor, words, listed, entries, count);
-    while run.at < run.end {
-        let worker = run::whose(turns, run.at);
-        let said = list::turn_at(board, records, index, floor, worker);
-        let next = run::go_on(run, said);
-        run = next;
+    let mut totals = tally::nothing();
+    let mut last = turn::no_report();
+    let (words, listed, entries) = (board.len(), records.len(), index.len());
+    if let Err(why) = hall::run_refusal(floor, words, listed, entries, turns.len()) {
+        return told::run(last, totals, why.into());
     }
-    told::run(run)
+    for &worker in turns {
+        match list::turn_at(board, records, index, floor, worker as usize) {
+            Ok(done) => {
+                totals = tally::add(totals, done.place, done.report);
+                last = done.report;
+            }
+            Err(why) => return told::run(last, totals, why.into()),
+        }
+    }
+    told::run(last, totals, 0)
 }
 
 // §1.1, §22.1: moves the lots to a second board, of so many buckets.
@@ -284,31 +245,28 @@ pub fn desk_show(board: &[u64], floor: Floor, lot: u64) -> Part
 
 // §2.8: the number of refusal of a show on the same arguments, or 0.
 pub fn desk_show_refusal(board: &[u64], floor: Floor, lot: u64) -> u8
-    ensures { ShowTested board.now floor lot result }
+    ensures { ShowNumbered board.now floor lot result }
 {
-    engine::show_refusal(board, floor, lot)
+    refusal::number(engine::show_refusal(board, floor, lot))
 }
 
 // §1.1: counts the lots on the board.
 pub fn desk_count(board: &[u64], floor: Floor) -> CountOutcome
     ensures { CountLeft board.now floor result }
 {
-    let counted = engine::count(board, floor);
-    told::count(counted)
+    told::count(engine::count(board, floor))
 }
 
 // §1.1, §21.3: the display asks for the number of valid slots.
 pub fn desk_total(board: &[u64], index: &[u64], floor: Floor) -> TotalOutcome
     ensures { TotalLeft board.now index.now floor result }
 {
-    let totalled = hall::total(board, index, floor);
-    told::total(totalled)
+    told::total(hall::total(board, index, floor))
 }
 
 // §1.1, §21.4: the display asks for the first occupied bucket at or after one.
 pub fn desk_next_occupied(board: &[u64], index: &[u64], floor: Floor, from: usize) -> NextOutcome
     ensures { NextLeft board.now index.now floor from result }
 {
-    let next = hall::next_occupied(board, index, floor, from);
-    told::next(next)
+    told::next(hall::next_occupied(board, index, floor, from))
 }

@@ -1,31 +1,26 @@
 // What the calls of the engine and the hall hand back, as it goes out to C.
 ghost use Rattle.std.specs.Prelude.{◌≡◌};
-ghost use Rattle.turn.specs.Turn.{Refused, Done, answer_of};
+ghost use Rattle.engine.specs.Calls.{counted_as};
+ghost use Rattle.hall.specs.Totalled.{totalled_as};
+ghost use Rattle.hall.specs.Next.{next_as};
+ghost use Rattle.floor.specs.Calls.{answered_as};
 ghost use Rattle.floor.specs.Told.{action_number, is_ended, ended_with, report_told, turn_told, run_told, count_told, total_told, next_told};
 
-use crate::run::Running;
+use crate::list::Done;
 use crate::{CountOutcome, NextOutcome, ReportOutcome, RunOutcome, TotalOutcome, TurnOutcome};
-use engine::Counted;
-use hall::{Next, Totalled};
-use turn::{Action, Progress, Report, Said};
-
-const READ: u8 = 1;
-
-const STORE: u8 = 2;
-
-const WON: u8 = 3;
-
-const LOST: u8 = 4;
+use engine::Totals;
+use turn::refusal::Refusal;
+use turn::{Action, Progress, Report};
 
 // §14.9: the number of an action.
 fn action(a: Action) -> u8
     ensures { result ≡ action_number a }
 {
     match a {
-        Action::Read => READ,
-        Action::Store => STORE,
-        Action::Won => WON,
-        Action::Lost => LOST,
+        Action::Read => 1,
+        Action::Store => 2,
+        Action::Won => 3,
+        Action::Lost => 4,
     }
 }
 
@@ -33,10 +28,7 @@ fn action(a: Action) -> u8
 fn is_ended(p: Progress) -> bool
     ensures { result ≡ is_ended p }
 {
-    match p {
-        Progress::GoesOn => false,
-        Progress::Ended(_) => true,
-    }
+    matches!(p, Progress::Ended(_))
 }
 
 // §14.9: the answer of a call that has ended; 0 where it goes on.
@@ -53,112 +45,92 @@ fn ended_with(p: Progress) -> u64
 fn report(r: Report) -> ReportOutcome
     ensures { result ≡ report_told r }
 {
-    let a = r.action;
-    let p = r.progress;
     ReportOutcome {
-        answer: ended_with(p),
+        answer: ended_with(r.progress),
         before: r.before,
         after: r.after,
         bucket: r.bucket,
-        action: action(a),
-        ended: is_ended(p),
+        action: action(r.action),
+        ended: is_ended(r.progress),
         full: r.full,
     }
 }
 
-fn done(r: Report) -> TurnOutcome
-    ensures { result ≡ turn_told (Done r) }
+// §7.1, §14.9: a turn's answer.
+pub fn turn(answer: Result<Done, Refusal>) -> TurnOutcome
+    ensures { result ≡ turn_told (answered_as answer) }
 {
-    TurnOutcome {
-        report: report(r),
-        refusal: 0,
-    }
-}
-
-fn refused(number: u8) -> TurnOutcome
-    ensures { result ≡ turn_told (Refused number) }
-{
-    TurnOutcome {
-        report: ReportOutcome {
-            answer: 0,
-            before: 0,
-            after: 0,
-            bucket: 0,
-            action: 0,
-            ended: false,
-            full: false,
+    match answer {
+        Ok(done) => TurnOutcome {
+            report: report(done.report),
+            refusal: 0,
         },
-        refusal: number,
+        Err(why) => TurnOutcome {
+            report: ReportOutcome {
+                answer: 0,
+                before: 0,
+                after: 0,
+                bucket: 0,
+                action: 0,
+                ended: false,
+                full: false,
+            },
+            refusal: why.into(),
+        },
     }
 }
 
-pub fn turn(said: Said) -> TurnOutcome
-    ensures { result ≡ turn_told (answer_of said) }
+// §4.10: a run's.
+pub fn run(last: Report, totals: Totals, stop: u8) -> RunOutcome
+    ensures { result ≡ run_told last totals stop }
 {
-    let report = said.report;
-    if said.refusal == 0 {
-        return done(report);
-    }
-    refused(said.refusal)
-}
-
-pub fn run(run: Running) -> RunOutcome
-    ensures { result ≡ run_told run.last run.totals run.stop }
-{
-    let totals = run.totals;
-    let last = run.last;
     RunOutcome {
         last: report(last),
         totals,
-        stop: run.stop,
+        stop,
     }
 }
 
-pub fn count(c: Counted) -> CountOutcome
-    ensures { result ≡ count_told c }
+// §14.9: a count's.
+pub fn count(answer: Result<usize, Refusal>) -> CountOutcome
+    ensures { result ≡ count_told (counted_as answer) }
 {
-    match c {
-        Counted::Refusal(number) => CountOutcome {
+    match answer {
+        Ok(lots) => CountOutcome { lots, refusal: 0 },
+        Err(why) => CountOutcome {
             lots: 0,
-            refusal: number,
+            refusal: why.into(),
         },
-        Counted::Lots(lots) => CountOutcome { lots, refusal: 0 },
     }
 }
 
-pub fn total(t: Totalled) -> TotalOutcome
-    ensures { result ≡ total_told t }
+// §14.9, §21.3: a total's.
+pub fn total(answer: Result<u64, Refusal>) -> TotalOutcome
+    ensures { result ≡ total_told (totalled_as answer) }
 {
-    match t {
-        Totalled::Refusal(number) => TotalOutcome {
+    match answer {
+        Ok(total) => TotalOutcome { total, refusal: 0 },
+        Err(why) => TotalOutcome {
             total: 0,
-            refusal: number,
-        },
-        Totalled::Slots(slots) => TotalOutcome {
-            total: slots,
-            refusal: 0,
+            refusal: why.into(),
         },
     }
 }
 
-pub fn next(n: Next) -> NextOutcome
-    ensures { result ≡ next_told n }
+// §14.9, §21.4: a next bucket's.
+pub fn next(answer: Result<Option<usize>, Refusal>) -> NextOutcome
+    ensures { result ≡ next_told (next_as answer) }
 {
-    match n {
-        Next::Refusal(number) => NextOutcome {
-            bucket: 0,
-            found: false,
-            refusal: number,
-        },
-        Next::Nowhere => NextOutcome {
-            bucket: 0,
-            found: false,
+    match answer {
+        Ok(next) => NextOutcome {
+            bucket: next.unwrap_or(0),
+            found: next.is_some(),
             refusal: 0,
         },
-        Next::Bucket(bucket) => NextOutcome {
-            bucket,
-            found: true,
-            refusal: 0,
+        Err(why) => NextOutcome {
+            bucket: 0,
+            found: false,
+            refusal: why.into(),
         },
     }
 }

@@ -1,12 +1,11 @@
 // The desk under the names that C calls it by (include/desk.h). A crate that others are built on is no static library, so this one stands over
-// it: each export promises what the function of its name promises there (crates/floor/src/lib.rt), clause by clause.
+// it: each export promises what the function of its name promises there (crates/floor/src/lib.rt), clause by clause; the three starts are one there.
 #![tactic(auto)]
 
 ghost use Rattle.engine.specs.Calls.{look_call, insert_call, remove_call};
-ghost use Rattle.engine.specs.Promises.{ShowTested};
-ghost use Rattle.floor.specs.Promises.{FloorOpened, StartLeft, TurnLeft, RetireLeft, RunLeft, MoveLeft, PartShown, CountLeft, TotalLeft, NextLeft};
+ghost use Rattle.floor.specs.Promises.{FloorOpened, StartLeft, TurnLeft, RetireLeft, RunLeft, MoveLeft, PartShown, ShowNumbered, CountLeft, TotalLeft, NextLeft};
 
-use engine::{Bid, Floor, Plan};
+use engine::{Asked, Bid, Floor, Plan};
 use floor::{CountOutcome, NextOutcome, Outcome, Part, RunOutcome, TotalOutcome, TurnOutcome};
 use turn::Worker;
 
@@ -35,7 +34,7 @@ pub extern "C" fn desk_start_look(
 ) -> Outcome
     ensures { StartLeft look_call board.now records.old floor worker lot records.new result }
 {
-    floor::desk_start_look(board, records, floor, worker, lot)
+    floor::desk_start(board, records, floor, worker, Asked::Look(lot))
 }
 
 // §1.1: starts an insert on a worker.
@@ -49,7 +48,7 @@ pub extern "C" fn desk_start_insert(
 ) -> Outcome
     ensures { StartLeft insert_call board.now records.old floor worker bid records.new result }
 {
-    floor::desk_start_insert(board, records, floor, worker, bid)
+    floor::desk_start(board, records, floor, worker, Asked::Insert(bid))
 }
 
 // §1.1: starts a remove on a worker.
@@ -63,7 +62,7 @@ pub extern "C" fn desk_start_remove(
 ) -> Outcome
     ensures { StartLeft remove_call board.now records.old floor worker lot records.new result }
 {
-    floor::desk_start_remove(board, records, floor, worker, lot)
+    floor::desk_start(board, records, floor, worker, Asked::Remove(lot))
 }
 
 // §1.1: gives a worker one turn.
@@ -134,7 +133,7 @@ pub extern "C" fn desk_show(board: &[u64], floor: Floor, lot: u64) -> Part
 // §2.8: the number of refusal of a show on the same arguments, or 0.
 #[unsafe(no_mangle)]
 pub extern "C" fn desk_show_refusal(board: &[u64], floor: Floor, lot: u64) -> u8
-    ensures { ShowTested board.now floor lot result }
+    ensures { ShowNumbered board.now floor lot result }
 {
     floor::desk_show_refusal(board, floor, lot)
 }

@@ -1,21 +1,18 @@
-use Rattle.std.proofs.Common.{sym, ap₂, ◌∙◌, arith}
+use Rattle.std.proofs.Common.{get_or, sym, ap, ◌∙◌}
+use Rattle.engine.specs.Calls.{blank}
 use Rattle.engine.specs.Move.{rest_with}
 use Rattle.engine.proofs.Rest.{rest_none, rest_next, rest_all}
 use Rattle.floor.proofs.list.rest_refusal.Goals as goal
 
-pub loop-k-init : goal.loop-k-init
-loop-k-init c = record { within = omega arith; number = sym (rest_none c.args.records.now) }
+pub loop-w-init : goal.loop-w-init
+loop-w-init c = sym (rest_none c.args.records.now)
 
-pub loop-k-preserved : goal.loop-k-preserved
-loop-k-preserved c =
-    let l = c.loop-k in
-    record {
-      within = omega arith;
-      number =
-          c.rest_refusal-next.ensures.whole
-          ∙ ap₂ rest_with l.invariant.number c.take_at-w.ensures
-          ∙ sym (rest_next c.args.records.now l.k c.loop-k-test.true);
-    }
+pub loop-w-preserved : goal.loop-w-preserved
+loop-w-preserved c =
+    let l = c.loop-w in
+    c.rest_refusal-number.ensures.whole
+    ∙ ap (λ n. rest_with n (get_or c.args.records.now l.w-index blank)) l.invariant
+    ∙ sym (rest_next c.args.records.now l.w-index c.loop-w-test.true)
 
 pub returns : goal.returns
-returns c = c.loop-k.invariant.number ∙ rest_all c.args.records.now c.loop-k.k c.loop-k-test.false
+returns c = c.loop-w.invariant ∙ rest_all c.args.records.now c.loop-w.w-index c.loop-w-test.false
