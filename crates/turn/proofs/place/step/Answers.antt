@@ -48,7 +48,7 @@ pub returns-in-8 : goal.returns-in-8
 returns-in-8 c = at_row 8 c.requires c.in-8.is (ap (leaves (set c.args.bucket.now (held_key c.args.w) c.args.w.key)) c.goes_to-in-8.ensures)
 
 pub returns-in-9 : goal.returns-in-9
-returns-in-9 c = 
+returns-in-9 c =
     at_row 9 c.requires c.in-9.is
     (c.swap-in-9.ensures
     ∙ simp (c.ends.ensures, c.lost-in-9.ensures, c.with_next_version-new.ensures, c.with_mark.ensures, c.with_mark-filled.ensures))
@@ -64,7 +64,7 @@ unfolding after12
 returns-in-12 c = at_row 12 c.requires c.in-12.is (ap (leaves _) c.read_seen-in-12.ensures)
 
 pub returns-in-13 : goal.returns-in-13
-returns-in-13 c = 
+returns-in-13 c =
     at_row 13 c.requires c.in-13.is
     (c.swap-in-13.ensures ∙ simp (c.ends-in-13.ensures, c.lost-in-13.ensures, c.with_mark-new-in-13.ensures))
 
