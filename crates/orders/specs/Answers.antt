@@ -1,7 +1,8 @@
 -- What the program answers: what all orders comes to from where a sheet leaves the desk, or the sheet's listing where it was refused.
 use Rattle.std.specs.Prelude.{ℕ, ◌-◌, ◌≤◌, cond, ◌≡◌, List, length, take, eqb}
 use Rattle.sheet.specs.Fields.{byte_at}
-use Rattle.sheet.specs.Play.{Desk, record_of}
+use Rattle.sheet.specs.declared.Desk.{Desk}
+use Rattle.sheet.specs.Play.{record_of}
 use Rattle.sheet.specs.Listing.{Ending, own_play}
 use Rattle.sheet.specs.Room.{longest}
 use Rattle.sheet.specs.Written.{Wrote}

@@ -15,7 +15,8 @@ use Rattle.engine.specs.Calls.{Started}
 use Rattle.engine.specs.Refusals.{start_number}
 use Rattle.engine.specs.Calls.{record_in, start_call}
 use Rattle.sheet.specs.declared.Call as Field
-use Rattle.sheet.specs.Play.{Desk, seat_at, asked, call_field}
+use Rattle.sheet.specs.declared.Desk.{Desk}
+use Rattle.sheet.specs.Play.{seat_at, asked, call_field}
 use Rattle.sheet.proofs.Seats.{asked_is, asked_known}
 use Rattle.history.specs.Trace.{Entry}
 use Rattle.history.specs.Numbers.{OneOf}

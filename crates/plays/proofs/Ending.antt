@@ -15,7 +15,8 @@ use Rattle.engine.specs.Calls.{turned, turn_call}
 use Rattle.sheet.specs.declared.Call as Field
 use Rattle.sheet.specs.declared.Field.TheVariants.{Opening, Calling, Turning}
 use Rattle.sheet.specs.Fields.{Read, Whole, Refused, read_field}
-use Rattle.sheet.specs.Play.{Desk, Outcome, record_of, call_field, turn_listed, turn_at_desk, turns_done, turns_in}
+use Rattle.sheet.specs.declared.Desk.{Desk}
+use Rattle.sheet.specs.Play.{Outcome, record_of, call_field, turn_listed, turn_at_desk, turns_done, turns_in}
 use Rattle.sheet.specs.Listing.{Told, told, Ending, told_first, listed_first, told_refusal, told_totals, after_field, one_field, fields_from}
 use Rattle.sheet.proofs.Fielding.{later_field, whole_next}
 use Rattle.history.specs.History.{Call, turn}

@@ -15,7 +15,8 @@ use Rattle.engine.specs.Refusals.{wrong_sizes, open_number}
 use Rattle.engine.specs.Calls.{planned}
 use Rattle.sheet.specs.declared.Field.TheVariants.{Opening, Calling, Turning}
 use Rattle.sheet.specs.Fields.{Read, Whole, Refused, read_field}
-use Rattle.sheet.specs.Play.{Desk, shut_desk, open_field}
+use Rattle.sheet.specs.declared.Desk.{Desk}
+use Rattle.sheet.specs.Play.{shut_desk, open_field}
 use Rattle.sheet.specs.Listing.{fields_from, played, words_asked, own_play, listing}
 use Rattle.sheet.proofs.Fielding.{first_field}
 use Rattle.history.specs.Numbers.{OneOf}

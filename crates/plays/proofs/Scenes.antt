@@ -11,7 +11,8 @@ use Rattle.turn.specs.Turn.{After}
 use Rattle.engine.specs.Calls.{record_in}
 use Rattle.engine.proofs.Keeps.{turn_accepted}
 use Rattle.sheet.specs.Fields.{Bytes}
-use Rattle.sheet.specs.Play.{Desk, Outcome, seat_at, shut_floor, call_field, turn_at_desk}
+use Rattle.sheet.specs.declared.Desk.{Desk}
+use Rattle.sheet.specs.Play.{Outcome, seat_at, shut_floor, call_field, turn_at_desk}
 use Rattle.sheet.proofs.Fielding.{later_field}
 use Rattle.sheet.proofs.Seats.{asked_known}
 use Rattle.history.specs.Trace.{Turn, Entry, acted}

@@ -19,7 +19,8 @@ use Rattle.engine.proofs.Numbers.{turn_number_lem}
 use Rattle.engine.proofs.Sleeping.{after_long}
 use Rattle.hall.proofs.Same.{turn_same}
 use Rattle.engine.proofs.Tallies.{losses_lost, losses_other, changes_change, changes_other}
-use Rattle.sheet.specs.Play.{Desk, outcome, seat_at, record_of, ended_line, turn_listed, turn_at_desk}
+use Rattle.sheet.specs.declared.Desk.{Desk}
+use Rattle.sheet.specs.Play.{outcome, seat_at, record_of, ended_line, turn_listed, turn_at_desk}
 use Rattle.history.specs.Trace.{Turn, Entry, acted, total}
 use Rattle.history.specs.Counts.{is_turn, is_lost, is_change, one_if, turns_in, counts_of}
 use Rattle.history.specs.History.{State, Opening, Call, turn, listed_of, seat_of, turn_by, turned_as, entry_of, opened, state, trace}

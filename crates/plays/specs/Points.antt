@@ -7,7 +7,8 @@ use Rattle.engine.specs.declared.Plan.{Plan}
 use Rattle.sheet.specs.declared.Call as Field
 use Rattle.sheet.specs.declared.Field.TheVariants.{Opening, Calling, Turning}
 use Rattle.sheet.specs.Fields.{Read, Whole, Refused, byte_at, read_field}
-use Rattle.sheet.specs.Play.{Desk, Outcome, shut_desk, open_field, call_field, turn_at_desk, turns_in}
+use Rattle.sheet.specs.declared.Desk.{Desk}
+use Rattle.sheet.specs.Play.{Outcome, shut_desk, open_field, call_field, turn_at_desk, turns_in}
 use Rattle.history.specs.History.{Call, look, insert, remove, turn, ticket}
 
 -- ---- the calls of a history that a sheet asks for

@@ -10,7 +10,8 @@ use borrow.Author.Tests.{eqb-true, eqb-false, eq-eqb, ne_eqb, ltb-false}
 use Rattle.mark.proofs.Choices.{by_cases, not_both}
 use Rattle.turn.specs.Turn.{After, after}
 use Rattle.sheet.specs.Fields.{Read, Whole, Refused, plan_at, read_field}
-use Rattle.sheet.specs.Play.{Desk, Outcome, shut_desk, field_done}
+use Rattle.sheet.specs.declared.Desk.{Desk}
+use Rattle.sheet.specs.Play.{Outcome, shut_desk, field_done}
 use Rattle.sheet.specs.Listing.{Ending, over, refused, one_field, fields_from, played}
 use Rattle.sheet.proofs.Fielding.{whole_next, first_field}
 use Rattle.pen.specs.Words.{bytes}

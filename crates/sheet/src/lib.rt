@@ -71,7 +71,7 @@ pub struct Stopped {
 
 // What the fields done so far have left, beside the board. Its records stay in one place while a sheet is played.
 #[derive(Clone, Copy, Debug, PartialEq, Eq, Hash)]
-struct Desk {
+pub struct Desk {
     pub floor: Floor,
     pub records: [Worker; 64],
     pub totals: Totals,

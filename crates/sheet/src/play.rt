@@ -61,7 +61,7 @@ pub fn start(board: &[u64], floor: Floor, w: Worker, call: Call) -> Result<Begun
 
 impl Desk {
     // The desk before any field.
-    pub fn shut() -> Desk
+    pub(crate) fn shut() -> Desk
         ensures { result ≡ shut_desk }
     {
         Desk {
@@ -132,7 +132,7 @@ impl Desk {
     }
 
     // §8.5: what a field does that was found at a place.
-    pub fn field(
+    pub(crate) fn field(
         &mut self,
         sheet: &[u8],
         board: &mut [u64],
