@@ -117,7 +117,6 @@ impl Stage {
     }
 
     // §2.9: the end of the sheet.
-    #[tactic(auto, unfolding(crate::specs::Stage::ended))]
     pub(crate) fn ended(&mut self, board: &[u64])
         ensures { self.new ≡ ended board.now self.old }
     {

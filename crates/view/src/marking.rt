@@ -61,7 +61,6 @@ fn version(pen: &mut Pen<'_>, said: &[u8], word: u64)
 }
 
 // Words, and a mark word to the end of the line.
-#[tactic(auto, using(pen::proofs::Putting::pens), unfolding(pen::specs::Words::bytes, crate::specs::Telling::word_told))]
 pub fn mark_word(pen: &mut Pen<'_>, said: &[u8], word: u64)
     ensures { Writes pen.old (word_told said.now word) pen.new }
 {
@@ -94,7 +93,6 @@ pub fn cell_word(pen: &mut Pen<'_>, said: &[u8], board: &[u64], bucket: usize, f
 }
 
 // A slot: its mark, its lot and its ticket.
-#[tactic(auto, using(pen::proofs::Putting::pens), unfolding(pen::specs::Words::bytes, crate::specs::Telling::slot_told))]
 fn slot(pen: &mut Pen<'_>, board: &[u64], bucket: usize, word: u64, slot: u8)
     ensures { Writes pen.old (slot_told board.now bucket word slot) pen.new }
 {
@@ -105,7 +103,6 @@ fn slot(pen: &mut Pen<'_>, board: &[u64], bucket: usize, word: u64, slot: u8)
 }
 
 // Its number, its version, and its three slots, to the end of the line.
-#[tactic(auto, using(pen::proofs::Putting::pens), unfolding(pen::specs::Words::bytes, crate::specs::Telling::bucket_told, crate::specs::Telling::slots_told))]
 pub fn bucket(pen: &mut Pen<'_>, board: &[u64], bucket: usize)
     ensures { Writes pen.old (bucket_told board.now bucket) pen.new }
 {

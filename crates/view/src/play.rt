@@ -21,7 +21,10 @@ impl Stage {
         ensures { self.new ≡ turned self.old worker w v report }
     {
         let cursor = self.cursor;
-        self.cursor.turn = cursor.turn + 1;
+        self.cursor = Cursor {
+            turn: cursor.turn + 1,
+            ..cursor
+        };
         let change = self.change_of(report.bucket);
         self.totals = tally::add(self.totals, w.place, report);
         self.sleep();

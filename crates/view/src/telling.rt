@@ -32,7 +32,6 @@ fn ticket(pen: &mut Pen<'_>, kind: u8, ticket: u64)
     }
 }
 
-#[tactic(auto, using(pen::proofs::Putting::pens), unfolding(pen::specs::Words::bytes, crate::specs::Telling::begin_told))]
 fn start(pen: &mut Pen<'_>, c: Call)
     ensures { Writes pen.old (begin_told c) pen.new }
 {
@@ -77,7 +76,6 @@ fn whose(pen: &mut Pen<'_>, turn: u32, worker: u8)
 }
 
 // Its number and what it means.
-#[tactic(auto, using(pen::proofs::Putting::pens), unfolding(pen::specs::Words::bytes, crate::specs::Telling::why_told))]
 fn why(pen: &mut Pen<'_>, number: u8)
     ensures { Writes pen.old (why_told number) pen.new }
 {
@@ -87,7 +85,6 @@ fn why(pen: &mut Pen<'_>, number: u8)
 }
 
 // §9.3: a refusal: why, and of which field.
-#[tactic(auto, using(pen::proofs::Putting::pens), unfolding(pen::specs::Words::bytes, crate::specs::Telling::stop_told))]
 pub fn stop(pen: &mut Pen<'_>, s: Stop)
     ensures { Writes pen.old (stop_told s) pen.new }
 {
@@ -101,7 +98,6 @@ pub fn stop(pen: &mut Pen<'_>, s: Stop)
 // ---- the end
 
 // A worker that is at a call.
-#[tactic(auto, using(pen::proofs::Putting::pens), unfolding(pen::specs::Words::bytes, crate::specs::Telling::call_told))]
 fn at_call(pen: &mut Pen<'_>, i: usize, w: Worker)
     ensures { Writes pen.old (call_told i w) pen.new }
 {
@@ -131,7 +127,6 @@ fn everyone(pen: &mut Pen<'_>, records: &[Worker; 64])
 }
 
 // What the turns come to.
-#[tactic(auto, using(pen::proofs::Putting::pens), unfolding(pen::specs::Words::bytes, crate::specs::Telling::totals_told))]
 fn totals(pen: &mut Pen<'_>, t: Totals)
     ensures { Writes pen.old (totals_told t) pen.new }
 {

@@ -179,7 +179,6 @@ fn full_round(pen: &mut Pen<'_>, full: bool)
 }
 
 // What a worker went by, and who has changed the mark word since.
-#[tactic(auto, using(pen::proofs::Putting::pens), unfolding(pen::specs::Words::bytes, crate::specs::Telling::blame_told))]
 fn blames(pen: &mut Pen<'_>, word: u64, change: Change)
     ensures { Writes pen.old (blame_told word change) pen.new }
 {
@@ -254,7 +253,6 @@ fn news(pen: &mut Pen<'_>, a: Acted)
 // ---- the turn
 
 // The worker and what it does.
-#[tactic(auto, using(pen::proofs::Putting::pens), unfolding(pen::specs::Words::bytes, crate::specs::Telling::head_told))]
 fn head(pen: &mut Pen<'_>, board: &[u64], turn: u32, a: Acted)
     ensures { Writes pen.old (head_told board.now turn a) pen.new }
 {
