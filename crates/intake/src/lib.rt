@@ -17,6 +17,7 @@ pub fn fill<R: Read>(input: &mut R, buf: &mut [u8]) -> io::Result<usize>
     ensures whole { IfOk result (λ n. n < length buf.new → IsAtEnd (R.remaining input.new)) }
 {
     let mut at = 0;
+    // std's `read_exact` fails where the input ends first, and its `read_to_end` takes a `Vec`, of which there is none here
     while at < buf.len() {
         let n = input.read(&mut buf[at..])?;
         if n == 0 {

@@ -30,6 +30,7 @@ pub struct Call {
     pub lot: u64,
     pub ticket: u64,
     pub worker: u8,
+    // a number and no enum: `start` answers for every one (`asked`)
     pub kind: u8,
 }
 
