@@ -48,6 +48,7 @@ fn opening(sheet: &[u8], at: usize, length: usize) -> Option<Found>
 }
 
 // §8.3: an insert has its ticket behind the lot, in four bytes or in eight.
+#[tactic(auto, unfolding(crate::specs::Fields::call_fits))]
 fn call_fits(kind: u8, length: usize) -> bool
     ensures { result ≡ call_fits kind length }
 {
@@ -60,6 +61,7 @@ fn call_fits(kind: u8, length: usize) -> bool
 }
 
 // §8.3: an insert's ticket, which takes what its value has beyond 10 bytes; another call has none.
+#[tactic(auto, using(crate::proofs::Fitting::call_fits_lem, crate::proofs::Fitting::fits_long, crate::proofs::Fitting::fits_within), unfolding(crate::specs::Fields::ticket_at))]
 fn ticket(sheet: &[u8], at: usize, kind: u8, length: usize) -> u64
     requires { Value sheet.now at length × (call_fits kind length ≡ true) }
     ensures { result ≡ ticket_at sheet.now at kind length }
