@@ -1,6 +1,7 @@
 -- The lines of the listing, as bytes.
 use Rattle.std.specs.Prelude.{ℕ, List, [], ◌∷◌, ◌++◌}
-pub use Rattle.pen.specs.Decimal.{decimal_in, decimal}
+unfoldable pub use Rattle.pen.specs.Decimal.{decimal_in}
+pub use Rattle.pen.specs.Decimal.{decimal}
 use Rattle.engine.specs.declared.Totals.{Totals}
 
 -- §9.4: a number with the space before it
