@@ -20,7 +20,7 @@ use Rattle.turn.specs.declared.refusal.Refusal.{Refusal as Why}
 use Rattle.walks.specs.declared.Walks.{Walks}
 use Rattle.walks.specs.Calls.{Walked, Refusal, Orders, walked_as}
 use Rattle.orders.specs.declared.Answer.{Answer as Said}
-use Rattle.orders.specs.declared.Answer.TheVariants.{Listing as SaidListing, Refused as SaidRefused, Counts as SaidCounts}
+use Rattle.orders.specs.declared.Answer.TheVariants.{Listing as SaidListing}
 use Rattle.orders.specs.Answers.{Answer, Listing, Refused, Counts, answer_as, orders_from, answer_of, answer_from, Answered, sheet_in, depth_in}
 
 -- the first words of a board of zeros

@@ -8,7 +8,7 @@ use Rattle.turn.specs.Number.{number as number_of}
 use Rattle.turn.proofs.Refusing.{number_same}
 use Rattle.orders.specs.declared.Answer.{Answer as Said}
 use Rattle.orders.specs.declared.Answer.TheVariants.{Listing as SaidListing, Refused as SaidRefused, Counts as SaidCounts}
-use Rattle.orders.specs.Answers.{Answer, Listing, Refused, Counts, answer_as, InputAnswered}
+use Rattle.orders.specs.Answers.{answer_as, InputAnswered}
 
 -- no two answers are told as one
 answer_same : (r t : Said) → answer_as r ≡ answer_as t → r ≡ t

@@ -67,11 +67,11 @@ fn main(rt: HostRuntime) -> io::Result<()> {
     match answered(&input[..read], &mut out) {
         Answer::Listing(written) => to.write_all(&out[..written]),
         // §9.3: the line of a refusal
-        Answer::Refused(why, offset) => write!(to, "R {} {offset}\n", u8::from(why)),
+        Answer::Refused(why, offset) => writeln!(to, "R {} {offset}", u8::from(why)),
         // §18.7: the line of the counts
-        Answer::Counts(walks) => write!(
+        Answer::Counts(walks) => writeln!(
             to,
-            "finished {} cut {} lost {} most {}\n",
+            "finished {} cut {} lost {} most {}",
             walks.finished, walks.cut, walks.lost, walks.most
         ),
     }
