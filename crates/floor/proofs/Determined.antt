@@ -1,6 +1,5 @@
 -- §12.2: two outcomes that meet the promise of a call are equal: the board, the list, the index and what is handed back. Each is over the record
--- that the call's contract cites; of a show and of its second call the engine's show-determined and show-refusal-determined say it. Assumes
--- nothing.
+-- that the call's contract cites; of a show the engine's show-determined says it. Assumes nothing.
 use Prim.Native.Nat.{ℕ}
 use mathlib.Core.Path.{◌≡◌, ap}
 use mathlib.Core.List.{List}

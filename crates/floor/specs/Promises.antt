@@ -1,4 +1,4 @@
--- What each call on the lent list promises (§12.1); a show and the test of one promise what the engine's do. Each part is an equation with
+-- What each call on the lent list promises (§12.1); a show promises what the engine's does. Each part is an equation with
 -- a function of what the call is given.
 use Rattle.std.specs.Prelude.{ℕ, ◌≡◌, List, length}
 use Rattle.turn.specs.declared.Worker.{Worker}
