@@ -139,6 +139,7 @@ impl Asked {
     ghost use Rattle.engine.specs.Calls.{record_for, asked_late, floor_after};
 
     // §3.4: the record that it begins with.
+    #[inline(always)]
     fn record(self) -> Worker
         ensures { result ≡ record_for self }
     {
@@ -150,6 +151,7 @@ impl Asked {
     }
 
     // §6.5: whether it has a ticket that is spent.
+    #[inline(always)]
     fn is_late(self, floor: Floor) -> bool
         ensures { result ≡ asked_late floor self }
     {
@@ -160,6 +162,7 @@ impl Asked {
     }
 
     // §3.5: the floor after it: an insert's ticket is the last from then on.
+    #[inline(always)]
     fn leaves(self, mut floor: Floor) -> Floor
         ensures { result ≡ floor_after floor self }
     {
@@ -170,7 +173,8 @@ impl Asked {
     }
 }
 
-// §3.4, §7.1: starts a look, an insert or a remove.
+// §3.4, §7.1: starts a look, an insert or a remove. Built into its caller, with what it calls, so that what is asked for is known there.
+#[inline(always)]
 pub fn start(board: &[u64], seat: Seat, w: Worker, asked: Asked) -> Result<Begun, Refusal>
     ensures { StartDone asked_call board.now seat w asked result }
 {
@@ -184,6 +188,7 @@ pub fn start(board: &[u64], seat: Seat, w: Worker, asked: Asked) -> Result<Begun
 }
 
 // §7.2: of board and list by their lengths.
+#[inline(always)]
 fn start_refusal(
     floor: Floor,
     words: usize,
@@ -199,6 +204,7 @@ fn start_refusal(
 }
 
 // §6.3, §6.4, §6.5: an idle record is the one that a start is for, so that it is tested first.
+#[inline(always)]
 fn record_refusal(w: Worker, late: bool) -> Result<(), Refusal>
     ensures { result_number result ≡ record_number w late }
 {
@@ -215,6 +221,7 @@ fn record_refusal(w: Worker, late: bool) -> Result<(), Refusal>
 }
 
 // §6.1, §6.2: why the sizes or the worker's own number refuse a call, if they do.
+#[inline(always)]
 fn seat_refusal(floor: Floor, words: usize, listed: usize, worker: usize) -> Result<(), Refusal>
     ensures { result_number result ≡ seat_number floor words listed worker }
 {

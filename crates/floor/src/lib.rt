@@ -111,6 +111,7 @@ pub fn desk_open_floor(
 }
 
 // §1.1, §3.4: starts a look, an insert or a remove on a worker.
+#[inline(always)]
 pub fn desk_start(
     board: &[u64],
     records: &mut [Worker],

@@ -56,6 +56,7 @@ pub fn sum(a: Walks, b: Walks) -> Walks
 }
 
 // Whose record is left after a turn: refused, a turn leaves its own.
+#[inline(always)]
 fn left_by(own: Worker, answer: Result<TurnDone, Refusal>) -> Worker
     ensures { result ≡ (tried_as own answer).worker }
 {
@@ -66,6 +67,7 @@ fn left_by(own: Worker, answer: Result<TurnDone, Refusal>) -> Worker
 }
 
 // §4.10: 1 for a lost swap, else 0; refused, a turn loses none.
+#[inline(always)]
 fn lost_by(own: Worker, answer: Result<TurnDone, Refusal>) -> u64
     ensures { result ≡ losses (tried_as own answer).said.report.action }
 {
