@@ -1,46 +1,69 @@
 -- What was found, at the beginning or the end of the next word. Assumes nothing.
-use Prim.Native.Nat.{ℕ, ◌+◌}
-use mathlib.Core.Path.{◌≡◌, ◌∙◌}
+use Prim.Native.Nat.{ℕ, ◌≤◌}
+use mathlib.Core.Bool.{Bool, true, false, cond, ◌&&◌, not, and-eq-true_iff}
+use mathlib.Core.Path.{◌≡◌, refl}
 use mathlib.Core.List.{List}
-use lib.ListN.{drop}
+use lib.Dec.{leb, eqb}
+use lib.ListN.{length}
+use borrow.Author.Tests.{leb-true}
+use Rattle.std.proofs.Common.{Option, Some, None}
 use Rattle.schedule.specs.declared.Word.{Word}
-use Rattle.schedule.specs.declared.Got.{Got}
-use Rattle.schedule.specs.Promises.{Reaches, Words, Finds}
-use Rattle.mark.proofs.Choices.{by_cases}
-use Rattle.schedule.specs.Tokens.{span, is_number, number_in, number_at}
+use Rattle.schedule.specs.Promises.{Words, Finds}
+use Rattle.schedule.specs.Tokens.{Got, found, missing, past_blanks, is_number, are_digits, value_after, number_at}
 use Rattle.schedule.proofs.Parts.{part}
 use Rattle.schedule.proofs.Spans.{reach_here, reach_then, reach_span}
 
-module _ {text : List ℕ} {from : ℕ} {w : Word} (word : Words text from w) {g r : Got} (is : r ≡ g) where
-  pub found_start : r.at ≡ w.start → Finds text from g r
-  found_start here = record { is = is; reach = rw here word.start }
+module _ {text : List ℕ} {from : ℕ} {w : Word} (word : Words text from w) where
+  -- the word was taken
+  pub found_end : (value : ℕ) {g : Got} → found value w.end ≡ g → Finds text from g (found value w.end)
+  found_end value is = record { is = is; reach = reach_then word.start word.end }
 
-  pub found_end : r.at ≡ w.end → Finds text from g r
-  found_end here = record { is = is; reach = rw here (reach_then word.start word.end) }
+  -- it is not what is expected
+  pub found_start : (what : ℕ) {g : Got} → missing w.start what ≡ g → Finds text from g (missing w.start what)
+  found_start what is = record { is = is; reach = word.start }
 
 -- nothing was found behind the blanks
-pub found_blanks : {text : List ℕ} {from : ℕ} {g r : Got} → r ≡ g → r.at ≡ from + span 0 (drop from text) → Finds text from g r
-found_blanks {text} {from} is here = record { is = is; reach = rw here (reach_span 0 text from) }
+pub found_blanks : {text : List ℕ} {from : ℕ} (what : ℕ) {g : Got} → missing (past_blanks text from) what ≡ g → Finds text from g (missing (past_blanks text from) what)
+found_blanks {text} {from} what is = record { is = is; reach = reach_span 0 text from }
 
 -- nothing was taken
-pub found_here : {text : List ℕ} {from : ℕ} {g r : Got} → r ≡ g → r.at ≡ from → Finds text from g r
-found_here {text} {from} is here = record { is = is; reach = rw here (reach_here text from) }
+pub found_here : {text : List ℕ} {from : ℕ} (value : ℕ) {g : Got} → found value from ≡ g → Finds text from g (found value from)
+found_here {text} {from} value is = record { is = is; reach = reach_here text from }
 
--- a number in a word is found at its beginning or at its end
-pub number_there :
-    (text : List ℕ) (at start end least most what : ℕ) (P : ℕ → Type 0) → P at → P end → P (number_in text at start end least most what).at
-number_there text at start end least most what P of_at of_end =
-    by_cases (λ (g : Got). P g.at) (is_number least most (part text start end)) _ _ (λ is. of_end) (λ other. of_at)
+-- ---- a number
 
-pub number_found :
-    {text : List ℕ} {from : ℕ} {w : Word} (most what : ℕ) {r : Got}
-    → Words text from w
-    → r ≡ number_in text (from + span 0 (drop from text)) w.start w.end 0 most what
-    → Finds text from (number_at text from most what) r
-unfolding number_at
-number_found {text} {from} {w} most what {r} word is =
-    record {
-      is = is ∙ (rw word.is);
-      reach = rw is
-          (number_there text _ w.start w.end 0 most what (Reaches text from) (reach_span 0 text from) (reach_then word.start word.end));
-    }
+none_said : (b : Bool) (v : ℕ) → None ≡ cond b (Some v) None → b ≡ false
+none_said true v e = cc
+none_said false v e = refl
+
+some_said : (b : Bool) (v n : ℕ) → Some n ≡ cond b (Some v) None → (b ≡ true) × (v ≡ n)
+some_said true v n e = (refl, cc)
+some_said false v n e = cc
+
+module _ {text : List ℕ} {from : ℕ} {w : Word} (word : Words text from w) (most what : ℕ) where
+  abbrev digits : List ℕ
+  digits = part text w.start w.end
+
+  abbrev said : Option ℕ
+  said = cond (is_number 0 most digits) (Some (value_after 0 digits)) None
+
+  -- the word says none
+  pub number_none : None ≡ said → Finds text from (number_at text from most what) (missing (past_blanks text from) what)
+  unfolding number_at
+  number_none e = found_blanks what (rw (← word.is, none_said (is_number 0 most digits) _ e))
+
+  -- it says this one
+  pub number_some : {n : ℕ} → Some n ≡ said → Finds text from (number_at text from most what) (found n w.end)
+  unfolding number_at
+  number_some {n} e =
+      let some = some_said (is_number 0 most digits) (value_after 0 digits) n e in
+      found_end word n (rw (← word.is, some.0, some.1))
+
+  pub number_most : {n : ℕ} → Some n ≡ said → n ≤ most
+  unfolding is_number
+  number_most {n} e =
+      let some = some_said (is_number 0 most digits) (value_after 0 digits) n e in
+      let v = value_after 0 digits in
+      let a = (and-eq-true_iff (not (eqb (length digits) 0)) (are_digits digits && (leb 0 v && leb v most))).0 some.0 in
+      let b = (and-eq-true_iff (are_digits digits) (leb 0 v && leb v most)).0 a.1 in
+      rw (← some.1) (leb-true v most ((and-eq-true_iff (leb 0 v) (leb v most)).0 b.1).1)

@@ -1,43 +1,43 @@
 -- Whether a word says this, letter by letter. Assumes nothing.
-use Prim.Native.Nat.{ℕ, ◌+◌, ◌<◌, ◌≤◌}
-use mathlib.Core.Path.{◌≡◌, refl}
-use mathlib.Core.Bool.{Bool, true, false}
-use mathlib.Core.List.{List, []}
-use native.Mathlib.Numerals.{add-one}
+use Prim.Native.Nat.{ℕ, ◌+◌}
+use mathlib.Core.Path.{◌≡◌, refl, ap, ◌∙◌}
+use mathlib.Core.Bool.{false}
+use mathlib.Core.Logic.{◌⊎◌, inl, inr}
+use mathlib.Core.List.{List, [], ◌∷◌, map}
 use native.Mathlib.Omega.{arith}
 use lib.Dec.{eqb}
-use borrow.Author.Tests.{eq-eqb, ne_eqb, eqb-true, eqb-false}
-use lib.ListN.{length, get_or, drop, drop_of_length-le}
-use lib.Seq.{drop-cons}
-use Rattle.schedule.specs.Tokens.{small, spelled, same}
-use Rattle.schedule.proofs.Parts.{part, part_first}
+use lib.ListN.{length}
+use borrow.Author.Tests.{eq-eqb, ne_eqb}
+use Rattle.schedule.specs.Tokens.{small, same}
 
--- nothing says what is left where nothing is
-none_left : (said : List ℕ) (i : ℕ) → i ≤ length said → (b : Bool) → eqb i (length said) ≡ b → b ≡ same [] (drop i said)
+-- the letters that are left of a word, and those left of what is said: the two are as long as one another where the wholes are
+pub record Left (word said w s : List ℕ) : Type 0 where
+  pub says : same (map small w) s ≡ same (map small word) said
+  pub long : length w + length said ≡ length s + length word
+
+pub left_all : (word said : List ℕ) → Left word said word said
+left_all word said = record { says = refl; long = omega arith }
+
+module _ {word said w s more_w more_s : List ℕ} {b c : ℕ} (l : Left word said w s) (first : w ≡ b ∷ more_w) (letter : s ≡ c ∷ more_s) where
+  -- another letter
+  pub left_other : (small b ≡ c → ⊥) → false ≡ same (map small word) said
+  unfolding same
+  left_other other = (rw (first, letter, ne_eqb (small b) c other)) ∙ l.says
+
+  -- the same letter
+  pub left_same : small b ≡ c → Left word said more_w more_s
+  unfolding same
+  left_same is =
+      record {
+        says = (rw (first, letter, eq-eqb (small b) c is)) ∙ l.says;
+        long = (let a = l.long in let f = ap length first in let g = ap length letter in omega (arith, a, f, g));
+      }
+
+-- none is left of one of the two
+pub left_over : {word said : List ℕ} (w s : List ℕ) → Left word said w s → (length w ≡ 0) ⊎ (length s ≡ 0) → eqb (length word) (length said) ≡ same (map small word) said
 unfolding same
-none_left said i h true e = let all = eqb-true i (length said) e in rw (drop_of_length-le said {i = i} (omega arith))
-none_left said i h false e = let some = eqb-false i (length said) e in rw (drop-cons said i 0 (omega arith))
-
-module _ (text said : List ℕ) (at end i : ℕ) where
-  -- a word that is over
-  pub said_over : part text at end ≡ [] → i ≤ length said → eqb i (length said) ≡ same (spelled text at end) (drop i said)
-  said_over none h = rw none (none_left said i h (eqb i (length said)) refl)
-
-  module _ (before : at < end) (inside : at < length text) where
-    -- a word that goes on past what is said
-    pub said_short : i ≡ length said → false ≡ same (spelled text at end) (drop i said)
-    unfolding same
-    said_short all = rw (part_first text at end before inside, drop_of_length-le said {i = i} (omega arith))
-
-    -- another letter
-    pub said_other : i < length said → (small (get_or text at 0) ≡ get_or said i 0 → ⊥) → false ≡ same (spelled text at end) (drop i said)
-    unfolding same
-    said_other h other = rw (part_first text at end before inside, drop-cons said i 0 h, ne_eqb _ _ other)
-
-    -- the same letter
-    pub said_next :
-        i < length said
-        → small (get_or text at 0) ≡ get_or said i 0
-        → same (spelled text at end) (drop i said) ≡ same (spelled text (at + 1) end) (drop (i + 1) said)
-    unfolding same
-    said_next h is = rw (part_first text at end before inside, drop-cons said i 0 h, eq-eqb _ _ is, add-one i)
+left_over {word} {said} [] [] l none = (rw (eq-eqb (length word) (length said) (omega (arith, l.long)))) ∙ l.says
+left_over {word} {said} [] (c ∷ s) l none = (rw (ne_eqb (length word) (length said) (omega (arith, l.long)))) ∙ l.says
+left_over {word} {said} (b ∷ w) [] l none = (rw (ne_eqb (length word) (length said) (omega (arith, l.long)))) ∙ l.says
+left_over {word} {said} (b ∷ w) (c ∷ s) l (inl none) = absurd (omega (arith, none))
+left_over {word} {said} (b ∷ w) (c ∷ s) l (inr none) = absurd (omega (arith, none))

@@ -1,12 +1,12 @@
 pub mod CallLine
 pub mod Determined
-pub mod Expected
 pub mod FieldAt
 pub mod FieldBytes
 pub mod FloorLine
 pub mod Found
 pub mod Heard
 pub mod HighFirst
+pub mod NumberOf
 pub mod Letters
 pub mod ReadBack
 pub mod Lining
@@ -14,6 +14,7 @@ pub mod Numbers
 pub mod Parts
 pub mod Places
 pub mod Recital
+pub mod Reciting
 pub mod RoundTrip
 pub mod Runs
 pub mod SayingFits

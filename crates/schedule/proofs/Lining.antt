@@ -15,13 +15,17 @@ use Rattle.sheet.specs.declared.Call.{Call as Asked}
 use Rattle.schedule.specs.declared.Word.{Word}
 use Rattle.schedule.specs.declared.Entry.{Entry}
 use Rattle.schedule.specs.declared.Entry.TheVariants.{Floor, Call, Turns}
-use Rattle.schedule.specs.declared.Said.{Said}
-use Rattle.schedule.specs.declared.Made.{Made}
 use Rattle.schedule.specs.Tokens.{word_at}
 use Rattle.schedule.specs.Bytes.{high_first, call_bytes}
 use Rattle.schedule.specs.Reading.{Line, right, wrong, before, line_then, whole_line, lines_from, sheet_of}
-use Rattle.schedule.specs.Promises.{Words, SheetMade}
-use Rattle.schedule.specs.Saids.{said_line, entry_bytes, call_size, entry_size, Counts, LineSaid, last_made}
+use Rattle.schedule.specs.Promises.{Words, SheetMade, written_of, end_of, wrong_of}
+use Rattle.schedule.specs.Saids.{nothing, entry_bytes, call_size, entry_size, Counts, LineSaid}
+use Rattle.std.proofs.Common.{Result, Ok, Err}
+use Rattle.schedule.specs.declared.Wrong.{Wrong}
+use Rattle.schedule.specs.declared.expected.Expected.TheVariants.{Floor as TheFloor, Room}
+use Rattle.schedule.specs.Numbers.{expected_number}
+use Rattle.schedule.specs.Results.{made_of}
+use Rattle.schedule.proofs.NumberOf.{some_number}
 
 -- ---- how long a field is
 
@@ -43,10 +47,6 @@ entry_long text (Turns from count) k = omega (arith, k.1)
 abbrev stopped : ℕ → ℕ → Line
 stopped at what = record { bytes = []; at = at; what = what }
 
-either_way : (at : ℕ) (first : Bool) → cond first (wrong at 1) (right [] at) ≡ stopped at (cond first 1 0)
-either_way at true = refl
-either_way at false = refl
-
 before_before : (l m : List ℕ) (rest : Line) → before l (before m rest) ≡ before (l ++ m) rest
 before_before l m rest = rw append_assoc
 
@@ -54,10 +54,9 @@ before_before l m rest = rw append_assoc
 
 module _ (text : List ℕ) (more at wrote : ℕ) {w : Word} (word : w ≡ word_at text at) where
   -- the end of the text
-  step_over : w.start ≡ w.end → length text ≤ w.start → lines_from (suc more) text at wrote ≡ stopped w.start (cond (eqb wrote 0) 1 0)
+  step_over : w.start ≡ w.end → length text ≤ w.start → lines_from (suc more) text at wrote ≡ cond (eqb wrote 0) (wrong w.start 1) (right [] w.start)
   unfolding lines_from
-  step_over none past =
-      rw (← word, eq-eqb w.start w.end none, le-leb (length text) w.start past) (either_way w.start (eqb wrote 0))
+  step_over none past = rw (← word, eq-eqb w.start w.end none, le-leb (length text) w.start past)
 
   -- a line with no word
   step_blank : w.start ≡ w.end → w.start < length text → lines_from (suc more) text at wrote ≡ lines_from more text (w.start + 1) wrote
@@ -94,6 +93,10 @@ standing_starts text out =
       fits = omega arith;
     }
 
+written_is : (written : ℕ) (r : Result ℕ Wrong) → written_of (made_of written r) ≡ written
+written_is written (Ok at) = refl
+written_is written (Err w) = refl
+
 module _ {text out₀ out : List ℕ} {at written : ℕ} (g : Standing text out₀ out at written) where
   -- the lines that are left
   here : (l : Line) → lines_from (suc (g.more - 1)) text at written ≡ l → before g.so_far l ≡ sheet_of text
@@ -103,28 +106,29 @@ module _ {text out₀ out : List ℕ} {at written : ℕ} (g : Standing text out�
 
   -- nothing more is written
   made :
-      (place what : ℕ) {r : Made}
-      → lines_from (suc (g.more - 1)) text at written ≡ stopped place what
-      → r.written ≡ written
-      → r.at ≡ place
-      → r.what ≡ what
-      → SheetMade text out₀ out r
-  made place what e so there why =
-      let all = here (stopped place what) e in
+      (r : Result ℕ Wrong)
+      → lines_from (suc (g.more - 1)) text at written ≡ stopped (end_of (made_of written r)) (wrong_of (made_of written r))
+      → SheetMade text out₀ out (made_of written r)
+  made r e =
+      let all = here _ e in
       record {
-        bytes = rw (so, ← ap (λ (l : Line). l.bytes) all, append-nil g.so_far) g.bytes;
-        at = there ∙ ap (λ (l : Line). l.at) all;
-        what = why ∙ ap (λ (l : Line). l.what) all;
-        fits = rw so g.fits;
+        bytes = rw (written_is written r, ← ap (λ (l : Line). l.bytes) all, append-nil g.so_far) g.bytes;
+        at = ap (λ (l : Line). l.at) all;
+        what = ap (λ (l : Line). l.what) all;
+        fits = rw (written_is written r) g.fits;
       }
 
   module _ {w : Word} (word : Words text at w) where
     module _ (none : w.start ≡ w.end) where
       -- the end of the text
-      pub sheet_over : length text ≤ w.start → {r : Made} → r ≡ last_made w.start written → SheetMade text out₀ out r
-      sheet_over past is =
-          made w.start (cond (eqb written 0) 1 0) (step_over text (g.more - 1) at written word.is none past)
-          (ap (λ (x : Made). x.written) is) (ap (λ (x : Made). x.at) is) (ap (λ (x : Made). x.what) is)
+      pub sheet_over : length text ≤ w.start → (written ≡ 0 → ⊥) → SheetMade text out₀ out (made_of written (Ok w.start))
+      sheet_over past some = made (Ok w.start) (rw (step_over text (g.more - 1) at written word.is none past, ne_eqb written 0 some))
+
+      -- one without a floor
+      pub sheet_none : length text ≤ w.start → written ≡ 0 → SheetMade text out₀ out (made_of written (Err (record { at = w.start; what = TheFloor })))
+      sheet_none past none_yet =
+          made (Err (record { at = w.start; what = TheFloor }))
+          (rw (step_over text (g.more - 1) at written word.is none past, eq-eqb written 0 none_yet))
 
       -- a line with no word
       pub sheet_blank : w.start < length text → Standing text out₀ out (w.start + 1) written
@@ -139,56 +143,53 @@ module _ {text out₀ out : List ℕ} {at written : ℕ} (g : Standing text out�
             fits = g.fits;
           }
 
-    module _
-        (some : w.start ≡ w.end → ⊥) {s : Said} (line : LineSaid text w (whole_line (eqb written 0) text w) s)
-      where
-        this : lines_from (suc (g.more - 1)) text at written ≡ line_then (lines_from (g.more - 1) text) w.start written (said_line text s)
+    module _ (some : w.start ≡ w.end → ⊥) where
+      -- a line that is wrong
+      pub sheet_wrong : {wrong_there : Wrong} → LineSaid text w (whole_line (eqb written 0) text w) (nothing wrong_there.at (expected_number wrong_there.what)) → SheetMade text out₀ out (made_of written (Err wrong_there))
+      sheet_wrong {wrong_there} line =
+          let other = ne_eqb (expected_number wrong_there.what) 0 (some_number wrong_there.what) in
+          made (Err wrong_there)
+          (step_line text (g.more - 1) at written word.is some
+          ∙ ap (λ (l : Line). line_then (lines_from (g.more - 1) text) w.start written l) (sym line.is)
+          ∙ (rw other))
+
+      module _ {entry : Entry} {next : ℕ} (line : LineSaid text w (whole_line (eqb written 0) text w) (record { entry = entry; at = next; what = 0 })) where
+        this :
+            lines_from (suc (g.more - 1)) text at written
+            ≡ line_then (lines_from (g.more - 1) text) w.start written (right (entry_bytes text entry) next)
         this =
             step_line text (g.more - 1) at written word.is some
             ∙ ap (λ (l : Line). line_then (lines_from (g.more - 1) text) w.start written l) (sym line.is)
 
-        -- a line that is wrong
-        pub sheet_wrong : (s.what ≡ 0 → ⊥) → {r : Made} → r ≡ record { written = written; at = s.at; what = s.what } → SheetMade text out₀ out r
-        sheet_wrong other is =
-            made s.at s.what (this ∙ (rw (ne_eqb s.what 0 other)))
-            (ap (λ (x : Made). x.written) is) (ap (λ (x : Made). x.at) is) (ap (λ (x : Made). x.what) is)
+        long : length (entry_bytes text entry) ≡ entry_size entry
+        long = entry_long text entry line.counts
 
-        module _ (so : s.what ≡ 0) where
-          long : length (entry_bytes text s.entry) ≡ entry_size s.entry
-          long = entry_long text s.entry line.counts
+        -- one with which the sheet would be too long
+        pub sheet_long : leb (entry_size entry) (16384 - written) ≡ false → SheetMade text out₀ out (made_of written (Err (record { at = w.start; what = Room })))
+        sheet_long over =
+            let more : 16384 < written + length (entry_bytes text entry) = omega (arith, long, leb-false (entry_size entry) (16384 - written) over, g.fits) in
+            made (Err (record { at = w.start; what = Room })) (this ∙ (rw (lt-ltb 16384 (written + length (entry_bytes text entry)) more)))
 
-          -- one with which the sheet would be too long
-          pub sheet_long :
-              leb (entry_size s.entry) (16384 - written) ≡ false
-              → {r : Made}
-              → r ≡ record { written = written; at = w.start; what = 19 }
-              → SheetMade text out₀ out r
-          sheet_long over is =
-              let more : 16384 < written + length (entry_bytes text s.entry) = omega (arith, long, leb-false (entry_size s.entry) (16384 - written) over, g.fits) in
-              made w.start 19
-              (this ∙ (rw (eq-eqb s.what 0 so, lt-ltb 16384 (written + length (entry_bytes text s.entry)) more)))
-              (ap (λ (x : Made). x.written) is) (ap (λ (x : Made). x.at) is) (ap (λ (x : Made). x.what) is)
-
-          -- one that fits
-          pub sheet_next :
-              {later : List ℕ} {next : ℕ}
-              → leb (entry_size s.entry) (16384 - written) ≡ true
-              → length out ≡ 16385
-              → Puts out written (entry_bytes text s.entry) later next
-              → Standing text out₀ later s.at next
-          sheet_next {later} {next} room size puts =
-              let less : written + length (entry_bytes text s.entry) ≤ 16384 = omega (arith, long, leb-true (entry_size s.entry) (16384 - written) room, g.fits) in
-              let put = puts_all puts (omega (arith, size, less)) in
-              let reach = line.reach so in
-              let bytes : List ℕ = entry_bytes text s.entry in
-              let others : Line = lines_from (g.more - 1) text s.at (written + length bytes) in
-              let then_lines = here (before bytes others) (this ∙ (rw (eq-eqb s.what 0 so, le-ltb 16384 (written + length bytes) less))) in
-              record {
-                more = g.more - 1;
-                so_far = g.so_far ++ entry_bytes text s.entry;
-                bytes = wrote_then g.bytes put;
-                same = rw put.place (sym (before_before g.so_far bytes others) ∙ then_lines);
-                enough = omega (arith, g.enough, g.inside, some, word.start.onward, word.end.onward, reach.onward);
-                inside = omega (arith, some, word.start.onward, word.end.onward, word.end.within, reach.within);
-                fits = omega (arith, less, put.place);
-              }
+        -- one that fits
+        pub sheet_next :
+            {later : List ℕ} {put_to : ℕ}
+            → leb (entry_size entry) (16384 - written) ≡ true
+            → length out ≡ 16385
+            → Puts out written (entry_bytes text entry) later put_to
+            → Standing text out₀ later next put_to
+        sheet_next {later} {put_to} room size puts =
+            let less : written + length (entry_bytes text entry) ≤ 16384 = omega (arith, long, leb-true (entry_size entry) (16384 - written) room, g.fits) in
+            let put = puts_all puts (omega (arith, size, less)) in
+            let reach = line.reach refl in
+            let bytes : List ℕ = entry_bytes text entry in
+            let others : Line = lines_from (g.more - 1) text next (written + length bytes) in
+            let then_lines = here (before bytes others) (this ∙ (rw (le-ltb 16384 (written + length bytes) less))) in
+            record {
+              more = g.more - 1;
+              so_far = g.so_far ++ bytes;
+              bytes = wrote_then g.bytes put;
+              same = rw put.place (sym (before_before g.so_far bytes others) ∙ then_lines);
+              enough = omega (arith, g.enough, g.inside, some, word.start.onward, word.end.onward, reach.onward);
+              inside = omega (arith, some, word.start.onward, word.end.onward, word.end.within, reach.within);
+              fits = omega (arith, less, put.place);
+            }

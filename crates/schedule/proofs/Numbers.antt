@@ -1,18 +1,19 @@
 -- The digits of a word as a number, digit by digit. Assumes nothing.
 use Prim.Native.Nat.{ℕ, ◌+◌, ◌*◌, ◌-◌, ◌<◌, ◌≤◌}
 use mathlib.Core.Path.{◌≡◌, refl, sym, ap, ◌∙◌}
-use mathlib.Core.Bool.{Bool, true, false, ◌&&◌}
+use mathlib.Core.Bool.{Bool, true, false, cond, ◌&&◌}
 use mathlib.Core.List.{List, [], ◌∷◌}
 use native.Mathlib.Nat.{le_refl}
+use native.Mathlib.Numerals.{add-one}
 use native.Mathlib.Omega.{arith}
 use borrow.Author.Tests.{eq-eqb, ne_eqb, le-leb, lt-leb}
-use lib.ListN.{length, get_or}
-use Rattle.schedule.specs.declared.Got.{Got}
-use Rattle.schedule.specs.Tokens.{is_digit, are_digits, value_after, is_number, found, missing, number_in}
-use Rattle.schedule.proofs.Parts.{part, part_first}
+use lib.ListN.{length, get_or, drop, drop_of_length-le}
+use lib.Seq.{drop-cons}
+use Rattle.std.proofs.Common.{Option, Some, None}
+use Rattle.schedule.specs.Tokens.{is_digit, are_digits, value_after, is_number}
 
 -- a test fails where its last part does
-and-false : (t : Bool) → (t && false) ≡ false
+pub and-false : (t : Bool) → (t && false) ≡ false
 and-false true = refl
 and-false false = refl
 
@@ -22,93 +23,78 @@ unfolding value_after
 value_grows n [] = le_refl n
 value_grows n (b ∷ l) = let more = value_grows (10 * n + (b - 48)) l in omega (arith, more)
 
--- what is handed back where there is no number
-pub none_found : {r g : Got} {at what : ℕ} (most : ℕ) → r ≡ missing at what → missing at what ≡ g → (r ≡ g) × (r.value ≤ most)
-none_found {r} most is none = (is ∙ none, (let zero : r.value ≡ 0 = ap (λ (x : Got). x.value) is in omega arith))
-
-module _ (text : List ℕ) (start end : ℕ) where
-  abbrev digits : List ℕ
-  digits = part text start end
-
+module _ (digits : List ℕ) where
   -- the digits before a place come to a number
-  pub record Counted (most n i : ℕ) : Type 0 where
-    pub right : are_digits (part text i end) ≡ are_digits digits
-    pub value : value_after n (part text i end) ≡ value_after 0 digits
-    pub long : length digits ≡ i - start + length (part text i end)
-    pub on : start ≤ i
-    pub few : n ≤ most
+  pub record Counted (n i : ℕ) : Type 0 where
+    pub right : are_digits (drop i digits) ≡ are_digits digits
+    pub value : value_after n (drop i digits) ≡ value_after 0 digits
 
-  pub counted_none : (most : ℕ) → Counted most 0 start
-  counted_none most = record { right = refl; value = refl; long = omega arith; on = omega arith; few = omega arith }
+  pub counted_none : Counted 0 0
+  counted_none = record { right = refl; value = refl }
 
-  module _ (least most at what : ℕ) where
-    abbrev number : Got
-    number = number_in text at start end least most what
+  module _ (least most : ℕ) where
+    -- the number of all of them, where they say one within the range
+    abbrev number : Option ℕ
+    number = cond (is_number least most digits) (Some (value_after 0 digits)) None
 
-    -- no number
-    is_not : is_number least most digits ≡ false → missing at what ≡ number
+    is_not : is_number least most digits ≡ false → None ≡ number
     is_not other = rw other
 
-    module _ {n i : ℕ} (k : Counted most n i) where
+    module _ {n i : ℕ} (k : Counted n i) where
       -- no more digits
-      module _ (over : part text i end ≡ []) where
-        all : length digits ≡ i - start
-        all = rw over at k.long ∙ omega arith
+      module _ (over : length digits ≤ i) where
+        none_left : drop i digits ≡ []
+        none_left = drop_of_length-le digits {i = i} over
 
         says : value_after 0 digits ≡ n
         unfolding value_after
-        says = sym k.value ∙ ap (value_after n) over
+        says = sym k.value ∙ ap (value_after n) none_left
 
-        pub counted_empty : i ≡ start → missing at what ≡ number
+        pub counted_empty : length digits ≡ 0 → None ≡ number
         unfolding is_number
-        counted_empty here = is_not (rw (eq-eqb (length digits) 0 (omega (arith, all))))
+        counted_empty none = is_not (rw (eq-eqb (length digits) 0 none))
 
-        pub counted_few : n < least → missing at what ≡ number
+        pub counted_few : n < least → None ≡ number
         unfolding is_number
         counted_few less = is_not (rw (says, lt-leb least n less, and-false, and-false))
 
-        pub counted_all : (i ≡ start → ⊥) → least ≤ n → found n end ≡ number
+        pub counted_over : most < n → None ≡ number
+        unfolding is_number
+        counted_over more = is_not (rw (says, lt-leb n most more, and-false, and-false, and-false))
+
+        pub counted_all : (length digits ≡ 0 → ⊥) → least ≤ n → n ≤ most → Some n ≡ number
         unfolding is_number are_digits
-        counted_all some enough =
-            rw (
-              ne_eqb (length digits) 0 (λ none. some (omega (arith, all, k.on))),
-              sym k.right ∙ ap are_digits over,
-              says,
-              le-leb least n enough,
-              le-leb n most k.few,
-            )
+        counted_all some low high =
+            rw (ne_eqb (length digits) 0 some, sym k.right ∙ ap are_digits none_left, says, le-leb least n low, le-leb n most high)
 
       -- another byte
-      module _ (before : i < end) (inside : i < length text) where
+      module _ (inside : i < length digits) where
         abbrev b : ℕ
-        b = get_or text i 0
+        b = get_or digits i 0
 
-        first : part text i end ≡ b ∷ part text (i + 1) end
-        first = part_first text i end before inside
+        first : drop i digits ≡ b ∷ drop (i + 1) digits
+        first = rw (drop-cons digits i 0 inside, add-one i)
 
-        pub counted_other : is_digit b ≡ false → missing at what ≡ number
+        pub counted_other : is_digit b ≡ false → None ≡ number
         unfolding is_number are_digits
         counted_other other =
             let wrong : are_digits digits ≡ false = sym k.right ∙ ap are_digits first ∙ (rw other) in
             is_not (rw (wrong, and-false))
 
-        grown : value_after 0 digits ≡ value_after (10 * n + (b - 48)) (part text (i + 1) end)
+        grown : value_after 0 digits ≡ value_after (10 * n + (b - 48)) (drop (i + 1) digits)
         unfolding value_after
         grown = sym k.value ∙ ap (value_after n) first
 
-        pub counted_many : most < 10 * n + (b - 48) → missing at what ≡ number
+        pub counted_many : most < 10 * n + (b - 48) → None ≡ number
         unfolding is_number
         counted_many more =
-            let large = value_grows (10 * n + (b - 48)) (part text (i + 1) end) in
+            let large = value_grows (10 * n + (b - 48)) (drop (i + 1) digits) in
             is_not (rw (lt-leb (value_after 0 digits) most (omega (arith, grown, large, more)), and-false, and-false, and-false))
 
-        pub counted_next : is_digit b ≡ true → 10 * n + (b - 48) ≤ most → Counted most (10 * n + (b - 48)) (i + 1)
-        unfolding are_digits
-        counted_next is less =
-            record {
-              right = sym (ap are_digits first ∙ (rw is)) ∙ k.right;
-              value = sym grown;
-              long = (let one = ap length first in omega (arith, k.long, k.on, one));
-              on = (let was = k.on in omega arith);
-              few = less;
-            }
+      pub counted_next : {m : ℕ} → i < length digits → is_digit (get_or digits i 0) ≡ true → m ≡ 10 * n + (get_or digits i 0 - 48) → Counted m (i + 1)
+      unfolding are_digits
+      counted_next inside is more =
+          record {
+            right = sym (ap are_digits (first inside) ∙ (rw is)) ∙ k.right;
+            value = rw more (sym (grown inside));
+          }

@@ -1,12 +1,14 @@
 -- How far something goes from a place of a text on. Assumes nothing.
-use Prim.Native.Nat.{ℕ, ◌+◌, ◌-◌, ◌<◌, ◌≤◌}
-use mathlib.Core.Path.{◌≡◌}
-use mathlib.Core.Bool.{true, false}
+use Prim.Native.Nat.{ℕ, ◌+◌, ◌-◌, ◌<◌, ◌≤◌, max}
+use mathlib.Core.Path.{◌≡◌, refl, sym, ◌∙◌}
+use mathlib.Core.Bool.{Bool, true, false}
 use mathlib.Core.List.{List, [], ◌∷◌}
 use native.Mathlib.Numerals.{add-one}
 use native.Mathlib.Omega.{arith}
 use lib.ListN.{length, get_or, drop, length-drop, drop_of_length-le}
 use lib.Seq.{drop-cons}
+use lib.Dec.{leb}
+use borrow.Author.Tests.{leb-true, leb-false}
 use Rattle.mark.proofs.Choices.{by_cases}
 use Rattle.schedule.specs.Tokens.{is_hash, goes_on, span, word_start}
 use Rattle.schedule.specs.Promises.{Reaches}
@@ -26,6 +28,23 @@ module _ (kind : ℕ) (text : List ℕ) (i : ℕ) where
   pub span_past : length text ≤ i → i + span kind (drop i text) ≡ i
   unfolding span
   span_past h = rw (drop_of_length-le text {i = i} h) (omega arith)
+
+-- what went on till a place, which is the end of the text or where it began past that
+pub span_all :
+    (kind : ℕ) (text : List ℕ) (at end : ℕ) {r : ℕ}
+    → r ≡ max at (length text)
+    → (at ≤ length text → end ≤ length text)
+    → length text ≤ end
+    → end + span kind (drop end text) ≡ at + span kind (drop at text)
+    → r ≡ at + span kind (drop at text)
+span_all kind text at end {r} is within over on = by_test (leb (length text) at) refl
+  where
+    by_test : (t : Bool) → leb (length text) at ≡ t → r ≡ at + span kind (drop at text)
+    by_test true e = let past = leb-true (length text) at e in omega (arith, is, past) ∙ sym (span_past kind text at past)
+    by_test false e =
+        let inside = leb-false (length text) at e in
+        let same : end ≤ length text = within (omega (arith, inside)) in
+        omega (arith, is, inside, same, over) ∙ sym (span_past kind text end over) ∙ on
 
 -- no further than to the end
 span_most : (kind : ℕ) (l : List ℕ) → span kind l ≤ length l

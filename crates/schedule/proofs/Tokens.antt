@@ -9,7 +9,7 @@ use lib.ListN.{length, take, drop, length-append, get_or-append}
 use lib.Seq.{take-append_seam}
 use borrow.Author.Tests.{leb-true, le-leb, eq-eqb, ne_eqb}
 use Rattle.pen.specs.Decimal.{decimal}
-use Rattle.schedule.specs.declared.Got.{Got}
+use Rattle.schedule.specs.Tokens.{Got}
 use Rattle.schedule.specs.Tokens.{small, span, word_at, same, is_number, number_in, number_at, either_at, line_end_at, past_blanks}
 use Rattle.schedule.specs.Reading.{Line, times_at}
 use Rattle.schedule.proofs.Places.{At, Stands, is_word, along, head, no_word, word_next}

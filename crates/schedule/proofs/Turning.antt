@@ -1,20 +1,30 @@
 -- The turns that a line lists, one worker's after another's: those that are left from here, after those so far, are all of them.
 -- Assumes nothing.
-use Prim.Native.Nat.{ℕ, zero, suc, ◌+◌, ◌-◌, ◌≤◌, ◌<◌}
+use Prim.Native.Nat.{ℕ, zero, suc, ◌+◌, ◌-◌, ◌≤◌, ◌<◌, min}
 use mathlib.Core.Bool.{Bool, true, false, cond}
 use mathlib.Core.Path.{◌≡◌, refl, sym, ap, ◌∙◌}
 use mathlib.Core.List.{List, [], ◌++◌, append-nil, append_assoc}
 use native.Mathlib.Omega.{arith}
 use lib.Dec.{eqb}
-use lib.ListN.{length, replicate}
-use borrow.Author.Tests.{eq-eqb, ne_eqb, eqb-true}
+use lib.ListN.{length, replicate, length-append, length-replicate}
+use borrow.Author.Tests.{ne_eqb, eqb-true, eqb-false}
 use Rattle.mark.proofs.Choices.{by_cases}
 use Rattle.schedule.specs.declared.Word.{Word}
-use Rattle.schedule.specs.declared.Got.{Got}
-use Rattle.schedule.specs.Tokens.{word_at, is_number, number_at}
+use Rattle.schedule.specs.Tokens.{Got}
+use Rattle.schedule.specs.Tokens.{found, word_at, is_number, number_at}
 use Rattle.schedule.specs.Reading.{Line, right, wrong, times_at, turns_from}
-use Rattle.schedule.specs.Promises.{Words, Finds}
+use Rattle.schedule.specs.Promises.{Reaches, Words}
+use Rattle.std.proofs.Common.{Result, Option, Ok, Err, Some, None}
+use Rattle.pen.specs.declared.Pen.{Pen}
+use Rattle.pen.specs.Written.{Writes}
+use Rattle.pen.proofs.Putting.{writes_none, writes_then}
+use Rattle.schedule.specs.declared.Wrong.{Wrong}
+use Rattle.schedule.specs.declared.token.Reader.{Reader}
+use Rattle.schedule.specs.Numbers.{expected_number}
+use Rattle.schedule.specs.Results.{Steps, Counted}
+use Rattle.schedule.proofs.NumberOf.{some_number}
 use Rattle.schedule.proofs.Parts.{part}
+use Rattle.schedule.proofs.Spans.{reach_here, reach_then}
 
 -- turns before those of the rest, where that is right
 abbrev pub first : List ℕ → Line → Line
@@ -54,29 +64,31 @@ number_ends text from most what some =
 
 -- ---- one step
 
-module _ (text : List ℕ) (more from : ℕ) {w : Word} (word : w ≡ word_at text from) where
-  -- no word is left
-  step_over : w.start ≡ w.end → turns_from (suc more) text from ≡ right [] w.start
+-- where a word stands, the text goes on
+pub word_inside : {text : List ℕ} {from : ℕ} {w : Word} → Words text from w → eqb w.start w.end ≡ false → from < length text
+word_inside {w = w} word some =
+    let other = eqb-false w.start w.end some in
+    omega (arith, other, word.start.onward, word.end.onward, word.end.within)
+
+module _ {text : List ℕ} {from : ℕ} {w : Word} (word : Words text from w) (some : eqb w.start w.end ≡ false) (worker times next end : ℕ) where
+  -- turns of one worker, and the rest
+  pub step_on :
+      found worker next ≡ number_at text from 255 17
+      → found times end ≡ times_at text next
+      → (more : ℕ)
+      → turns_from (suc more) text from ≡ first (replicate times worker) (turns_from more text end)
   unfolding turns_from
-  step_over none = rw (← word, eq-eqb w.start w.end none)
+  step_on number often more = rw (← word.is, some, ← number, ← often) refl
 
-  module _ (some : w.start ≡ w.end → ⊥) {n : Got} (number : n ≡ number_at text from 255 17) where
-    -- no worker's number
-    step_stops : (n.what ≡ 0 → ⊥) → turns_from (suc more) text from ≡ wrong n.at n.what
-    unfolding turns_from
-    step_stops other = rw (← word, ne_eqb w.start w.end some, ← number, ne_eqb n.what 0 other)
-
-    module _ (is : n.what ≡ 0) {t : Got} (often : t ≡ times_at text n.at) where
-      -- not how often
-      step_stops_at : (t.what ≡ 0 → ⊥) → turns_from (suc more) text from ≡ wrong t.at t.what
-      unfolding turns_from
-      step_stops_at other =
-          rw (← word, ne_eqb w.start w.end some, ← number, eq-eqb n.what 0 is, ← often, ne_eqb t.what 0 other)
-
-      -- turns of one worker, and the rest
-      step_on : t.what ≡ 0 → turns_from (suc more) text from ≡ first (replicate t.value n.value) (turns_from more text t.at)
-      unfolding turns_from
-      step_on so = rw (← word, ne_eqb w.start w.end some, ← number, eq-eqb n.what 0 is, ← often, eq-eqb t.what 0 so)
+  -- the place behind them is further on
+  pub step_ahead : found worker next ≡ number_at text from 255 17 → next ≤ end → from < end
+  step_ahead number on =
+      let other = eqb-false w.start w.end some in
+      let ends : next ≡ (word_at text from).end =
+      ap (λ (g : Got). g.at) number
+      ∙ number_ends text from 255 17 (λ e. absurd (omega arith)) (sym (ap (λ (g : Got). g.what) number)) in
+      let is = ap (λ (v : Word). v.end) word.is in
+      omega (arith, ends, is, other, on, word.start.onward, word.end.onward)
 
 -- ---- where the reading stands
 
@@ -90,53 +102,143 @@ pub record Going (text : List ℕ) (all : Line) (so_far : List ℕ) (from : ℕ)
 pub going_starts : (text : List ℕ) (at : ℕ) → Going text (turns_from (length text) text at) [] at
 going_starts text at = record { more = length text; same = first_nothing _; enough = omega arith }
 
-module _ {text : List ℕ} {all : Line} {so_far : List ℕ} {from : ℕ} (g : Going text all so_far from) {w : Word} (word : Words text from w) where
-  over_any : (more : ℕ) → length text ≤ from + more → w.start ≡ w.end → turns_from more text from ≡ right [] w.start
-  unfolding turns_from
-  over_any zero enough none = let same : from ≡ w.start = omega (arith, word.start.onward, word.start.within) in ap (right []) same
-  over_any (suc more) enough none = step_over text more from word.is none
+-- what is left, where the text goes on
+here :
+    {text : List ℕ} {all : Line} {so_far : List ℕ} {from : ℕ} (g : Going text all so_far from)
+    → from < length text
+    → (l : Line)
+    → turns_from (suc (g.more - 1)) text from ≡ l
+    → first so_far l ≡ all
+here g inside l e =
+    let back : suc (g.more - 1) ≡ g.more = omega (arith, inside, g.enough) in
+    rw (← e, back) g.same
 
+over :
+    {before after : Reader}
+    → Steps before after (Ok None)
+    → (more : ℕ)
+    → length before.text.now ≤ before.at + more
+    → turns_from more before.text.now before.at ≡ right [] after.at
+unfolding turns_from
+over {before} {after} s zero enough = let same : before.at ≡ after.at = omega (arith, enough, s.reach.onward, s.reach.within) in ap (right []) same
+over s (suc more) enough = s.is more
+
+module _ {before after : Reader} {all : Line} {so_far : List ℕ} (g : Going before.text.now all so_far before.at) where
   -- no word is left
-  pub going_over : w.start ≡ w.end → right so_far w.start ≡ all
-  going_over none = sym (first_none so_far w.start) ∙ ap (first so_far) (sym (over_any g.more g.enough none)) ∙ g.same
+  pub going_over : Steps before after (Ok None) → right so_far after.at ≡ all
+  going_over s = sym (first_none so_far after.at) ∙ ap (first so_far) (sym (over s g.more g.enough)) ∙ g.same
 
-  module _ (some : w.start ≡ w.end → ⊥) where
-    inside : from < length text
-    inside = omega (arith, word.start.onward, word.end.onward, word.end.within)
+  -- something else stands there
+  pub going_stops : {w : Wrong} → Steps before after (Err w) → wrong w.at (expected_number w.what) ≡ all
+  going_stops {w} s =
+      sym (first_wrong so_far w.at (expected_number w.what) (some_number w.what)) ∙ here g (s.inside (λ e. cc)) _ (s.is (g.more - 1))
 
-    -- what is left
-    here : (l : Line) → turns_from (suc (g.more - 1)) text from ≡ l → first so_far l ≡ all
-    here l e =
-        let back : suc (g.more - 1) ≡ g.more = omega (arith, inside, g.enough) in
-        rw (← e, back) g.same
+  -- turns of one worker
+  pub going_on : {run : ℕ × ℕ} → Steps before after (Ok (Some run)) → Going before.text.now all (so_far ++ replicate run.1 run.0) after.at
+  going_on {run} s =
+      let inside = s.inside (λ e. cc) in
+      record {
+        more = g.more - 1;
+        same = sym (first_first so_far (replicate run.1 run.0) (turns_from (g.more - 1) before.text.now after.at)) ∙ here g inside _ (s.is (g.more - 1));
+        enough = (let ahead = s.ahead in omega (arith, ahead, inside, g.enough));
+      }
 
-    module _ {n : Got} (number : Finds text from (number_at text from 255 17) n) where
-      -- no worker's number
-      pub going_stops : (n.what ≡ 0 → ⊥) → wrong n.at n.what ≡ all
-      going_stops other =
-          sym (first_wrong so_far n.at n.what other)
-          ∙ here (wrong n.at n.what) (step_stops text (g.more - 1) from word.is some number.is other)
+-- ---- how many there are
 
-      module _ (is : n.what ≡ 0) {t : Got} (often : Finds text n.at (times_at text n.at) t) where
-        -- not how often
-        pub going_stops_at : (t.what ≡ 0 → ⊥) → wrong t.at t.what ≡ all
-        going_stops_at other =
-            sym (first_wrong so_far t.at t.what other)
-            ∙ here (wrong t.at t.what) (step_stops_at text (g.more - 1) from word.is some number.is is often.is other)
+-- what all of a line's turns come to from a reader's place on
+abbrev pub all_turns : Reader → Line
+all_turns start = turns_from (length start.text.now) start.text.now start.at
 
-        -- the place behind them is further on
-        pub going_ahead : (from < t.at) × (from < length text)
-        going_ahead =
-            let ends : n.at ≡ w.end = rw (number.is, word.is) (number_ends text from 255 17 (λ e. absurd (omega arith)) (rw number.is at is)) in
-            (omega (arith, ends, some, word.start.onward, word.end.onward, often.reach.onward), inside)
+-- so many were counted, as many as they are or more than a sheet holds
+pub record Counting (start at : Reader) (count : ℕ) : Type 0 where
+  pub text : at.text ≡ start.text
+  pub so_far : List ℕ
+  pub going : Going at.text.now (all_turns start) so_far at.at
+  pub tally : min count 16385 ≡ min (length so_far) 16385
+  pub reach : Reaches start.text.now start.at at.at
 
-        -- turns of one worker
-        pub going_on : t.what ≡ 0 → Going text all (so_far ++ replicate t.value n.value) t.at
-        going_on so =
-            record {
-              more = g.more - 1;
-              same =
-                  sym (first_first so_far (replicate t.value n.value) (turns_from (g.more - 1) text t.at))
-                  ∙ here _ (step_on text (g.more - 1) from word.is some number.is is often.is so);
-              enough = omega (arith, going_ahead.0, inside, g.enough);
-            }
+pub counting_starts : (start : Reader) → Counting start start 0
+counting_starts start =
+    record { text = refl; so_far = []; going = going_starts _ _; tally = refl; reach = reach_here _ _ }
+
+-- a reach from its place
+on : {start at : Reader} {count to : ℕ} → Counting start at count → Reaches at.text.now at.at to → Reaches start.text.now start.at to
+on k reach = reach_then k.reach (rw k.text at reach)
+
+module _ {start at after : Reader} {count : ℕ} (k : Counting start at count) where
+  pub counting_over : Steps at after (Ok None) → Counted start (all_turns start) after (Ok count)
+  counting_over s =
+      let all = going_over k.going s in
+      record {
+        text = s.text ∙ k.text;
+        tallies = record {
+          at = ap (λ (x : Line). x.at) all;
+          what = ap (λ (x : Line). x.what) all;
+          stops = λ some. absurd (some refl);
+          tally = k.tally ∙ ap (λ (x : Line). min (length x.bytes) 16385) all;
+          reach = on k s.reach;
+        };
+      }
+
+  pub counting_stops : {w : Wrong} → Steps at after (Err w) → Counted start (all_turns start) after (Err w)
+  counting_stops {w} s =
+      let all = going_stops k.going s in
+      record {
+        text = s.text ∙ k.text;
+        tallies = record {
+          at = ap (λ (x : Line). x.at) all;
+          what = ap (λ (x : Line). x.what) all;
+          stops = λ some. all;
+          tally = ap (λ (x : Line). min (length x.bytes) 16385) all;
+          reach = on k s.reach;
+        };
+      }
+
+  pub counting_on : {run : ℕ × ℕ} {more : ℕ} → Steps at after (Ok (Some run)) → more ≡ min (count + run.1) 18446744073709551615 → Counting start after more
+  counting_on {run} {more} s is =
+      let longer : length (k.so_far ++ replicate run.1 run.0) ≡ length k.so_far + run.1 =
+      length-append k.so_far (replicate run.1 run.0) ∙ ap (λ (n : ℕ). length k.so_far + n) (length-replicate run.1 run.0) in
+      record {
+        text = s.text ∙ k.text;
+        so_far = k.so_far ++ replicate run.1 run.0;
+        going = (let g = going_on k.going s in rw (← s.text) at g);
+        tally = omega (arith, longer, is, k.tally);
+        reach = on k s.reach;
+      }
+
+-- ---- the turns themselves
+
+-- the turns so far are written
+pub record Listing (start : Reader) (first : Pen) (at : Reader) (pen : Pen) : Type 0 where
+  pub text : at.text ≡ start.text
+  pub so_far : List ℕ
+  pub going : Going at.text.now (all_turns start) so_far at.at
+  pub wrote : Writes first so_far pen
+
+pub listing_starts : (start : Reader) (pen : Pen) → Listing start pen start pen
+listing_starts start pen = record { text = refl; so_far = []; going = going_starts _ _; wrote = writes_none pen }
+
+module _ {start at after : Reader} {first pen : Pen} (k : Listing start first at pen) where
+  pub listing_on :
+      {run : ℕ × ℕ} {later : Pen}
+      → Steps at after (Ok (Some run))
+      → Writes pen (replicate run.1 run.0) later
+      → Listing start first after later
+  listing_on s wrote =
+      record {
+        text = s.text ∙ k.text;
+        so_far = _;
+        going = (let g = going_on k.going s in rw (← s.text) at g);
+        wrote = writes_then k.wrote wrote;
+      }
+
+  -- where the turns are right, the line ends
+  pub listing_over :
+      (r : Result (Option (ℕ × ℕ)) Wrong)
+      → Steps at after r
+      → ((run : ℕ × ℕ) → r ≡ Ok (Some run) → ⊥)
+      → (all_turns start).what ≡ 0
+      → Writes first (all_turns start).bytes pen
+  listing_over (Ok None) s no_run right_all = rw (← ap (λ (x : Line). x.bytes) (going_over k.going s)) k.wrote
+  listing_over (Ok (Some run)) s no_run right_all = absurd (no_run run refl)
+  listing_over (Err w) s no_run right_all = absurd (some_number w.what (ap (λ (x : Line). x.what) (going_stops k.going s) ∙ right_all))

@@ -1,3 +1,4 @@
+pub mod Numbers
 pub mod Tokens
 pub mod Bytes
 pub mod Reading
@@ -6,3 +7,4 @@ pub mod Saying
 pub mod WellFormed
 pub mod Promises
 pub mod Saids
+pub mod Results

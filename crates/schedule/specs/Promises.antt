@@ -1,10 +1,14 @@
 -- What the public functions promise (§12.1).
-use Rattle.std.specs.Prelude.{ℕ, ◌+◌, ◌-◌, ◌≤◌, Bool, false, cond, ◌||◌, ◌≡◌, List, length, get_or, eqb, leb}
+use Rattle.std.specs.Prelude.{ℕ, ◌+◌, ◌-◌, ◌≤◌, Bool, false, cond, ◌||◌, ◌≡◌, List, length, get_or, eqb, leb, Result, Ok, Err}
 use Rattle.pen.specs.Written.{Wrote, Puts}
 use Rattle.schedule.specs.declared.Word.{Word}
-use Rattle.schedule.specs.declared.Got.{Got}
+use Rattle.schedule.specs.Tokens.{Got}
 use Rattle.schedule.specs.declared.Made.{Made}
+use Rattle.schedule.specs.declared.Stopped.{Stopped}
+use Rattle.schedule.specs.Numbers.{expected_number}
 use Rattle.schedule.specs.declared.Recited.{Recited}
+use Rattle.schedule.specs.declared.Malformed.{Malformed}
+use Rattle.std.specs.Result.{is_ok}
 use Rattle.schedule.specs.Tokens.{word_at}
 use Rattle.schedule.specs.Reading.{sheet_of}
 use Rattle.schedule.specs.Writing.{text_of}
@@ -26,24 +30,49 @@ pub record Finds (text : List ℕ) (from : ℕ) (g r : Got) : Type 0 where
   pub is : r ≡ g
   pub reach : Reaches text from r.at
 
+-- how many bytes are written of a text's sheet
+abbrev pub written_of : Result Made Stopped → ℕ
+written_of (Ok m) = m.written
+written_of (Err s) = s.written
+
+-- the place behind the text; or of what is wrong
+abbrev pub end_of : Result Made Stopped → ℕ
+end_of (Ok m) = m.at
+end_of (Err s) = s.wrong.at
+
+-- 0; or the number of what is expected where the text is wrong
+abbrev pub wrong_of : Result Made Stopped → ℕ
+wrong_of (Ok m) = 0
+wrong_of (Err s) = expected_number s.wrong.what
+
 -- the sheet of a text, whole: no more than a sheet may have
-pub record SheetMade (text out later : List ℕ) (r : Made) : Type 0 where
-  pub bytes : Wrote out 0 (sheet_of text).bytes later r.written
-  pub at : r.at ≡ (sheet_of text).at
-  pub what : r.what ≡ (sheet_of text).what
-  pub fits : r.written ≤ 16384
+pub record SheetMade (text out later : List ℕ) (r : Result Made Stopped) : Type 0 where
+  pub bytes : Wrote out 0 (sheet_of text).bytes later (written_of r)
+  pub at : end_of r ≡ (sheet_of text).at
+  pub what : wrong_of r ≡ (sheet_of text).what
+  pub fits : written_of r ≤ 16384
+
+-- how many bytes are written of a sheet's text
+abbrev pub recited_of : Result Recited Malformed → ℕ
+recited_of (Ok r) = r.written
+recited_of (Err m) = m.written
+
+-- where the sheet ends; or where it is malformed
+abbrev pub place_of : Result Recited Malformed → ℕ
+place_of (Ok r) = r.at
+place_of (Err m) = m.at
 
 -- the text of a sheet: the buffer before and after; as much of it as there is room for
-pub record Recites (sheet out later : List ℕ) (r : Recited) : Type 0 where
-  pub lines : Puts out 0 (text_of sheet).lines later r.written
-  pub at : r.at ≡ (text_of sheet).at
-  pub whole : r.whole ≡ (text_of sheet).whole
+pub record Recites (sheet out later : List ℕ) (r : Result Recited Malformed) : Type 0 where
+  pub lines : Puts out 0 (text_of sheet).lines later (recited_of r)
+  pub at : place_of r ≡ (text_of sheet).at
+  pub whole : is_ok r ≡ (text_of sheet).whole
 
 -- .. and of a sheet that is no longer than one may be, all of it
-pub record TextRecited (sheet out later : List ℕ) (r : Recited) : Type 0 where
+pub record TextRecited (sheet out later : List ℕ) (r : Result Recited Malformed) : Type 0 where
   pub recites : Recites sheet out later r
-  pub fits : length sheet ≤ 16384 → r.written ≤ 65600
-  pub all : length sheet ≤ 16384 → Wrote out 0 (text_of sheet).lines later r.written
+  pub fits : length sheet ≤ 16384 → recited_of r ≤ 65600
+  pub all : length sheet ≤ 16384 → Wrote out 0 (text_of sheet).lines later (recited_of r)
 
 -- §24.7: a first byte that is a blank, the end of a line or a byte of a word begins a text; a sheet begins with 1, and no byte at all is one too
 unfoldable pub is_text : List ℕ → Bool

@@ -4,7 +4,7 @@ use Rattle.turn.specs.Worker.{look_kind, insert_kind, remove_kind}
 use Rattle.sheet.specs.declared.Call.{Call}
 use Rattle.pen.specs.Words.{bytes}
 use Rattle.schedule.specs.declared.Word.{Word}
-use Rattle.schedule.specs.declared.Got.{Got}
+use Rattle.schedule.specs.Tokens.{Got}
 use Rattle.schedule.specs.Tokens.{small, past_blanks, word_at, spelled, same, number_in, number_at, either_at, keyword_at, line_end_at}
 use Rattle.schedule.specs.Bytes.{floor_bytes, call_bytes, turns_bytes}
 

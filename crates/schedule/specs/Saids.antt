@@ -4,9 +4,7 @@ use Rattle.turn.specs.Worker.{insert_kind}
 use Rattle.schedule.specs.declared.Entry.{Entry}
 use Rattle.schedule.specs.declared.Entry.TheVariants.{Floor, Call, Turns}
 use Rattle.schedule.specs.declared.Word.{Word}
-use Rattle.schedule.specs.declared.Got.{Got}
-use Rattle.schedule.specs.declared.Made.{Made}
-use Rattle.schedule.specs.declared.Said.{Said}
+use Rattle.schedule.specs.Tokens.{Got}
 use Rattle.schedule.specs.Bytes.{floor_bytes, call_bytes, turns_bytes}
 use Rattle.schedule.specs.Reading.{Line, wrong, turns_from}
 use Rattle.schedule.specs.Promises.{Reaches}
@@ -33,6 +31,12 @@ Counts text (Floor p) = Unit {0}
 Counts text (Call c long) = Unit {0}
 Counts text (Turns from count) =
     ((turns_from (length text) text from).what ≡ 0) × (length (turns_from (length text) text from).bytes ≡ count) × (count ≤ 16384)
+
+-- what a line says, the place behind it, and 0; or the place where something else stands, and the number of what is expected there
+pub record Said : Type 0 where
+  pub entry : Entry
+  pub at : ℕ
+  pub what : ℕ
 
 -- what was read, as a part of the text
 abbrev pub said_line : List ℕ → Said → Line
@@ -61,7 +65,3 @@ pub record Tallies (text : List ℕ) (from : ℕ) (all : Line) (r : Got) : Type 
   pub stops : (r.what ≡ 0 → ⊥) → wrong r.at r.what ≡ all
   pub tally : min r.value 16385 ≡ min (length all.bytes) 16385
   pub reach : Reaches text from r.at
-
--- the end of a text, after so many bytes
-abbrev pub last_made : ℕ → ℕ → Made
-last_made at written = record { written = written; at = at; what = cond (eqb written 0) 1 0 }

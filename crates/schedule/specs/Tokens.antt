@@ -1,7 +1,6 @@
 -- The words and numbers of a text, and the blanks and comments between them. A text is bytes; a place counts those before it.
 use Rattle.std.specs.Prelude.{ℕ, ◌+◌, ◌*◌, ◌-◌, Bool, true, false, cond, ◌&&◌, ◌||◌, not, List, [], ◌∷◌, map, length, take, drop, get_or, eqb, leb}
 use Rattle.schedule.specs.declared.Word.{Word}
-use Rattle.schedule.specs.declared.Got.{Got}
 
 -- ---- bytes
 
@@ -83,6 +82,12 @@ is_number least most digits =
     not (eqb (length digits) 0) && (are_digits digits && (leb least (value_after 0 digits) && leb (value_after 0 digits) most))
 
 -- ---- what was found where something is expected
+
+-- its value and the place behind it, and 0; or the place where something else stands, and the number of what is expected there
+pub record Got : Type 0 where
+  pub value : ℕ
+  pub at : ℕ
+  pub what : ℕ
 
 -- a number and the place behind it
 abbrev pub found : ℕ → ℕ → Got

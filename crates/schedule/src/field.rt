@@ -1,80 +1,82 @@
 // What a line says, written as a field of the sheet: tag, length, value. Each function writes as far as there is room.
+#![tactic(auto, using(pen::proofs::Putting::pens), unfolding(pen::specs::Words::bytes))]
+
 ghost use Rattle.std.specs.Prelude.{◌≡◌, ◌∷◌, ◌++◌, leb};
-ghost use Rattle.pen.specs.Written.{Puts};
+ghost use Rattle.pen.specs.Written.{Writes};
 ghost use Rattle.schedule.specs.Bytes.{high_first, floor_bytes, call_bytes};
 ghost use Rattle.schedule.specs.Saids.{Counts, entry_bytes, call_size, entry_size};
 
 use crate::{Entry, turns};
 use engine::Plan;
+use pen::Pen;
 use sheet::Call;
 use turn::record;
 
 // §8.1: a number in so many bytes, the high byte first.
-fn high_first(out: &mut [u8], at: usize, n: u64, bytes: usize) -> usize
-    ensures { Puts out.old at (high_first bytes n) out.new result }
+#[tactic(auto, using(pen::proofs::Putting::pens, crate::proofs::HighFirst::high_none, crate::proofs::HighFirst::high_more))]
+fn high_first(pen: &mut Pen<'_>, n: u64, bytes: usize)
+    ensures { Writes pen.old (high_first bytes n) pen.new }
 {
-    if bytes == 0 {
-        return at;
+    if bytes != 0 {
+        high_first(pen, n / 256, bytes - 1);
+        pen.byte((n % 256) as u8);
     }
-    let next = high_first(out, at, n / 256, bytes - 1);
-    pen::byte(out, next, (n % 256) as u8)
 }
 
 // §8.2: the field of a floor.
-fn floor(out: &mut [u8], at: usize, plan: Plan) -> usize
-    ensures { Puts out.old at (floor_bytes plan) out.new result }
+fn floor(pen: &mut Pen<'_>, plan: Plan)
+    ensures { Writes pen.old (floor_bytes plan) pen.new }
 {
-    let head = pen::words(out, at, b"\x01\x00\x07");
-    let workers = high_first(out, head, plan.workers as u64, 1);
-    let buckets = high_first(out, workers, plan.buckets as u64, 2);
-    high_first(out, buckets, plan.version as u64, 4)
+    pen.words(b"\x01\x00\x07");
+    high_first(pen, plan.workers as u64, 1);
+    high_first(pen, plan.buckets as u64, 2);
+    high_first(pen, u64::from(plan.version), 4);
 }
 
 // §8.3: a call whose value has this length, with its ticket in so many bytes.
-fn call_of(out: &mut [u8], at: usize, call: Call, length: u8, bytes: usize) -> usize
-    ensures { Puts out.old at
-        (2 ∷ 0 ∷ length ∷ call.worker ∷ call.kind ∷ (high_first 8 call.lot ++ high_first bytes call.ticket)) out.new result }
+fn call_of(pen: &mut Pen<'_>, call: Call, length: u8, bytes: usize)
+    ensures { Writes pen.old
+        (2 ∷ 0 ∷ length ∷ call.worker ∷ call.kind ∷ (high_first 8 call.lot ++ high_first bytes call.ticket)) pen.new }
 {
-    let tag = pen::words(out, at, b"\x02\x00");
-    let long = pen::byte(out, tag, length);
-    let worker = pen::byte(out, long, call.worker);
-    let kind = pen::byte(out, worker, call.kind);
-    let lot = high_first(out, kind, call.lot, 8);
-    high_first(out, lot, call.ticket, bytes)
+    pen.words(b"\x02\x00");
+    pen.byte(length);
+    pen.byte(call.worker);
+    pen.byte(call.kind);
+    high_first(pen, call.lot, 8);
+    high_first(pen, call.ticket, bytes);
 }
 
 // §8.3: the field of a call.
-fn call(out: &mut [u8], at: usize, call: Call, long: bool) -> usize
-    ensures { Puts out.old at (call_bytes call long) out.new result }
+fn call(pen: &mut Pen<'_>, call: Call, long: bool)
+    ensures { Writes pen.old (call_bytes call long) pen.new }
 {
     if call.kind != record::INSERT {
-        return call_of(out, at, call, 10, 0);
+        call_of(pen, call, 10, 0);
+    } else if long {
+        call_of(pen, call, 18, 8);
+    } else {
+        call_of(pen, call, 14, 4);
     }
-    if long {
-        return call_of(out, at, call, 18, 8);
-    }
-    call_of(out, at, call, 14, 4)
 }
 
 // §8.4: the field of turns, so many of them, which a line lists from a place on.
-fn turns(text: &[u8], from: usize, count: usize, out: &mut [u8], at: usize) -> usize
+fn turns(pen: &mut Pen<'_>, text: &[u8], from: usize, count: usize)
     ensures { Counts text.now (Entry.Turns from count) →
-        Puts out.old at (entry_bytes text.now (Entry.Turns from count)) out.new result }
+        Writes pen.old (entry_bytes text.now (Entry.Turns from count)) pen.new }
 {
-    let tag = pen::byte(out, at, 3);
-    let head = high_first(out, tag, count as u64, 2);
-    turns::list(text, from, out, head)
+    pen.byte(3);
+    high_first(pen, count as u64, 2);
+    turns::list(pen, text, from);
 }
 
 // The field of what a line says.
-pub fn write(text: &[u8], entry: Entry, out: &mut [u8], at: usize) -> usize
-    ensures { Counts text.now entry →
-        Puts out.old at (entry_bytes text.now entry) out.new result }
+pub fn write(pen: &mut Pen<'_>, text: &[u8], entry: Entry)
+    ensures { Counts text.now entry → Writes pen.old (entry_bytes text.now entry) pen.new }
 {
     match entry {
-        Entry::Floor(plan) => floor(out, at, plan),
-        Entry::Call(said, long) => call(out, at, said, long),
-        Entry::Turns(from, count) => turns(text, from, count, out, at),
+        Entry::Floor(plan) => floor(pen, plan),
+        Entry::Call(said, long) => call(pen, said, long),
+        Entry::Turns(from, count) => turns(pen, text, from, count),
     }
 }
 
@@ -82,13 +84,11 @@ pub fn write(text: &[u8], entry: Entry, out: &mut [u8], at: usize) -> usize
 fn call_fits(kind: u8, long: bool, left: usize) -> bool
     ensures { result ≡ leb (call_size kind long) left }
 {
-    if kind != record::INSERT {
-        return 13 <= left;
+    match (kind, long) {
+        (record::INSERT, true) => 21 <= left,
+        (record::INSERT, false) => 17 <= left,
+        _ => 13 <= left,
     }
-    if long {
-        return 21 <= left;
-    }
-    17 <= left
 }
 
 // Whether the field of what a line says fits into so many bytes.
@@ -98,14 +98,6 @@ pub fn fits(entry: Entry, left: usize) -> bool
     match entry {
         Entry::Floor(_) => 10 <= left,
         Entry::Call(said, long) => call_fits(said.kind, long, left),
-        Entry::Turns(_, count) => {
-            if left < 3 {
-                return false;
-            }
-            if left - 3 < count {
-                return false;
-            }
-            true
-        }
+        Entry::Turns(_, count) => 3 <= left && count <= left - 3,
     }
 }

@@ -1,211 +1,196 @@
 // The words and numbers of a text. Each function looks from a place on, and none asks anything of its caller: past the end stands nothing.
-ghost use Rattle.std.specs.Prelude.{◌+◌, ◌≤◌, ◌≡◌, drop};
-ghost use Rattle.schedule.specs.Tokens.{goes_on, small, span, past_comment, word_start, word_at, spelled, same, found, missing};
-ghost use Rattle.schedule.specs.Tokens.{number_in, number_at, either_at, keyword_at, line_end_at};
-ghost use Rattle.schedule.specs.Promises.{Finds, Words};
+ghost use Rattle.std.specs.Prelude.{◌+◌, ◌-◌, ◌≤◌, ◌≡◌, map, drop, take, cond, Some, None, IfOk};
+ghost use Rattle.schedule.specs.Tokens.{goes_on, small, span, past_blanks, past_comment, spelled, same, is_number, value_after};
+ghost use Rattle.schedule.specs.Tokens.{number_at, either_at, keyword_at, line_end_at};
+ghost use Rattle.schedule.specs.Promises.{Reaches, Words};
+ghost use Rattle.schedule.specs.Numbers.{expected_number};
+ghost use Rattle.schedule.specs.Results.{run_number, which, Takes};
 
-use crate::{Got, Word};
+use crate::{Expected, Word, Wrong};
+
+// Bytes that are skipped or taken together: blanks, the rest of a line, a word.
+#[derive(Clone, Copy, Debug, PartialEq, Eq, Hash)]
+pub enum Run {
+    Blanks,
+    Comment,
+    Letters,
+}
 
 fn is_blank(byte: u8) -> bool
     ensures { result ≡ goes_on 0 byte }
 {
-    if byte == b' ' {
-        return true;
-    }
-    if byte == b'\t' {
-        return true;
-    }
-    byte == b'\r'
+    matches!(byte, b' ' | b'\t' | b'\r')
 }
 
-fn goes_on(kind: u8, byte: u8) -> bool
-    ensures { result ≡ goes_on kind byte }
-{
-    if kind == 0 {
-        return is_blank(byte);
-    }
-    if kind == 1 {
-        return byte != b'\n';
-    }
-    if is_blank(byte) {
-        return false;
-    }
-    if byte == b'#' {
-        return false;
-    }
-    byte != b'\n'
-}
-
-// The place where what goes on from a place on ends.
-pub fn span(text: &[u8], at: usize, kind: u8) -> usize
-    ensures { result ≡ at + span kind (drop at text.now) }
-{
-    let mut i = at;
-    while i < text.len() {
-        if !goes_on(kind, text[i]) {
-            return i;
-        }
-        i += 1;
-    }
-    i
-}
-
-fn past_comment(text: &[u8], at: usize) -> usize
-    ensures { result ≡ past_comment text.now at }
-{
-    if at < text.len() {
-        if text[at] == b'#' {
-            return span(text, at, 1);
+impl Run {
+    fn takes(self, byte: u8) -> bool
+        ensures { result ≡ goes_on (run_number self) byte }
+    {
+        match self {
+            Run::Blanks => is_blank(byte),
+            Run::Comment => byte != b'\n',
+            Run::Letters => !(is_blank(byte) || byte == b'#' || byte == b'\n'),
         }
     }
-    at
 }
 
-fn word_start(text: &[u8], at: usize) -> usize
-    ensures { result ≡ word_start text.now at }
-{
-    let next = span(text, at, 0);
-    past_comment(text, next)
+// A text, and the place from which on it is read.
+#[derive(Clone, Copy, Debug)]
+pub struct Reader<'a> {
+    pub text: &'a [u8],
+    pub at: usize,
 }
 
-pub fn word(text: &[u8], at: usize) -> Word
-    ensures { Words text.now at result }
-{
-    let start = word_start(text, at);
-    let end = span(text, start, 2);
-    Word { start, end }
+impl<'a> Reader<'a> {
+    // The place where a run from a place on ends.
+    fn past(&self, at: usize, run: Run) -> usize
+        ensures { result ≡ at + span (run_number run) (drop at self.now.text.now) }
+    {
+        for end in at..self.text.len() {
+            if !run.takes(self.text[end]) {
+                return end;
+            }
+        }
+        at.max(self.text.len())
+    }
+
+    fn past_blanks(&self) -> usize
+        ensures { result ≡ past_blanks self.now.text.now self.now.at }
+    {
+        self.past(self.at, Run::Blanks)
+    }
+
+    // The next word of the line.
+    #[tactic(auto, using(crate::proofs::Spans::reach_start, crate::proofs::Spans::reach_span), unfolding(crate::specs::Tokens::word_at, crate::specs::Tokens::word_start))]
+    pub fn word(&self) -> Word
+        ensures { Words self.now.text.now self.now.at result }
+    {
+        let mut start = self.past_blanks();
+        if self.text.get(start) == Some(&b'#') {
+            start = self.past(start, Run::Comment);
+        }
+        Word {
+            start,
+            end: self.past(start, Run::Letters),
+        }
+    }
+
+    // The bytes from one place to another, as far as the text goes.
+    pub fn bytes(&self, start: usize, end: usize) -> &'a [u8]
+        ensures { result.now ≡ take (end - start) (drop start self.now.text.now) }
+    {
+        self.text
+            .get(start..end.min(self.text.len()))
+            .unwrap_or(&[])
+    }
+
+    // Whether a word says this, in letters of either form.
+    pub fn spells(&self, word: Word, said: &[u8]) -> bool
+        ensures { result ≡ same (spelled self.now.text.now word.start word.end) said.now }
+    {
+        is_said(self.bytes(word.start, word.end), said)
+    }
+
+    // What is wrong where something else stands behind the blanks.
+    #[tactic(auto, using(crate::proofs::Spans::reach_span))]
+    pub fn wrong(&self, what: Expected) -> Wrong
+        ensures is { result ≡ record { at = past_blanks self.now.text.now self.now.at; what = what } }
+        ensures reach { Reaches self.now.text.now self.now.at result.at }
+    {
+        Wrong {
+            at: self.past_blanks(),
+            what,
+        }
+    }
+
+    // A number up to the most that is expected.
+    pub fn number(&mut self, most: u64, what: Expected) -> Result<u64, Wrong>
+        ensures takes { Takes (λ n. n) self.old (number_at self.old.text.now self.old.at most (expected_number what)) self.new result }
+        ensures most { IfOk result (λ n. n ≤ most) }
+    {
+        let word = self.word();
+        let Some(number) = number_in(self.bytes(word.start, word.end), 0, most) else {
+            return Err(self.wrong(what));
+        };
+        self.at = word.end;
+        Ok(number)
+    }
+
+    // One of two words: whether it is the first.
+    #[tactic(auto, unfolding(crate::specs::Tokens::either_at))]
+    pub fn either(&mut self, one: &[u8], other: &[u8], what: Expected) -> Result<bool, Wrong>
+        ensures { Takes which self.old (either_at self.old.text.now self.old.at one.now other.now (expected_number what)) self.new result }
+    {
+        let word = self.word();
+        let first = self.spells(word, one);
+        if !first && !self.spells(word, other) {
+            return Err(self.wrong(what));
+        }
+        self.at = word.end;
+        Ok(first)
+    }
+
+    #[tactic(auto, unfolding(crate::specs::Tokens::either_at))]
+    pub fn keyword(&mut self, said: &[u8], what: Expected) -> Result<(), Wrong>
+        ensures { Takes (λ _. 1) self.old (keyword_at self.old.text.now self.old.at said.now (expected_number what)) self.new result }
+    {
+        let word = self.word();
+        if !self.spells(word, said) {
+            return Err(self.wrong(what));
+        }
+        self.at = word.end;
+        Ok(())
+    }
+
+    // The end of the line, where no word is left.
+    #[tactic(auto, unfolding(crate::specs::Tokens::line_end_at))]
+    pub fn line_end(&mut self, what: Expected) -> Result<(), Wrong>
+        ensures { Takes (λ _. 0) self.old (line_end_at self.old.text.now self.old.at (expected_number what)) self.new result }
+    {
+        let word = self.word();
+        if !word.is_empty() {
+            return Err(Wrong {
+                at: word.start,
+                what,
+            });
+        }
+        self.at = word.start;
+        Ok(())
+    }
 }
 
 // A letter in its small form.
-pub fn small(byte: u8) -> u8
+fn small(byte: u8) -> u8
     ensures { result ≡ small byte }
 {
-    if byte < b'A' {
-        return byte;
-    }
-    if byte <= b'Z' {
-        return byte + 32;
-    }
-    byte
+    byte.to_ascii_lowercase()
 }
 
-// Whether the word from start to end says this, in letters of either form.
-pub fn spells(text: &[u8], start: usize, end: usize, said: &[u8]) -> bool
-    ensures { result ≡ same (spelled text.now start end) said.now }
+// Whether a word says this, in letters of either form.
+fn is_said(word: &[u8], said: &[u8]) -> bool
+    ensures { result ≡ same (map small word.now) said.now }
 {
-    let mut at = start;
-    let mut i = 0;
-    loop {
-        if end <= at {
-            return i == said.len();
-        }
-        if text.len() <= at {
-            return i == said.len();
-        }
-        if i == said.len() {
+    for (&byte, &letter) in word.iter().zip(said) {
+        if small(byte) != letter {
             return false;
         }
-        if small(text[at]) != said[i] {
-            return false;
-        }
-        at += 1;
-        i += 1;
     }
+    word.len() == said.len()
 }
 
-pub fn found(value: u64, at: usize) -> Got
-    ensures { result ≡ found value at }
-{
-    Got { value, at, what: 0 }
-}
-
-pub fn missing(at: usize, what: u8) -> Got
-    ensures { result ≡ missing at what }
-{
-    Got { value: 0, at, what }
-}
-
-// The digits from start to end, as a number within a range. It stops before a number that would pass the most, so that none overflows.
-pub fn number_in(
-    text: &[u8],
-    at: usize,
-    start: usize,
-    end: usize,
-    least: u64,
-    most: u64,
-    what: u8,
-) -> Got
-    ensures { (result ≡ number_in text.now at start end least most what) × (result.value ≤ most) }
+// Digits as a number within a range.
+pub fn number_in(digits: &[u8], least: u64, most: u64) -> Option<u64>
+    ensures { result ≡ cond (is_number least most digits.now) (Some (value_after 0 digits.now)) None }
 {
     let mut n: u64 = 0;
-    let mut i = start;
-    while i < end {
-        if text.len() <= i {
-            break;
+    for &byte in digits {
+        if !byte.is_ascii_digit() {
+            return None;
         }
-        let byte = text[i];
-        if byte < b'0' {
-            return missing(at, what);
-        }
-        if byte > b'9' {
-            return missing(at, what);
-        }
-        let digit = (byte - b'0') as u64;
-        if most < digit {
-            return missing(at, what);
-        }
-        if (most - digit) / 10 < n {
-            return missing(at, what);
-        }
-        n = 10 * n + digit;
-        i += 1;
+        n = n.checked_mul(10)?.checked_add(u64::from(byte - b'0'))?;
     }
-    if i == start {
-        return missing(at, what);
+    if digits.is_empty() || n < least || most < n {
+        return None;
     }
-    if n < least {
-        return missing(at, what);
-    }
-    found(n, end)
-}
-
-// A number up to the most that is expected.
-pub fn number(text: &[u8], at: usize, most: u64, what: u8) -> Got
-    ensures { Finds text.now at (number_at text.now at most what) result × (result.value ≤ most) }
-{
-    let place = span(text, at, 0);
-    let w = word(text, at);
-    number_in(text, place, w.start, w.end, 0, most, what)
-}
-
-// One of two words.
-pub fn either(text: &[u8], at: usize, one: &[u8], other: &[u8], what: u8) -> Got
-    ensures { Finds text.now at (either_at text.now at one.now other.now what) result }
-{
-    let w = word(text, at);
-    if spells(text, w.start, w.end, one) {
-        return found(1, w.end);
-    }
-    if spells(text, w.start, w.end, other) {
-        return found(2, w.end);
-    }
-    let place = span(text, at, 0);
-    missing(place, what)
-}
-
-pub fn keyword(text: &[u8], at: usize, said: &[u8], what: u8) -> Got
-    ensures { Finds text.now at (keyword_at text.now at said.now what) result }
-{
-    either(text, at, said, said, what)
-}
-
-// The end of the line, where no word is left.
-pub fn line_end(text: &[u8], at: usize, what: u8) -> Got
-    ensures { Finds text.now at (line_end_at text.now at what) result }
-{
-    let w = word(text, at);
-    if w.start == w.end {
-        return found(0, w.start);
-    }
-    missing(w.start, what)
+    Some(n)
 }

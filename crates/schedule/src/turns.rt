@@ -1,87 +1,73 @@
 // The turns that a line lists: read twice, first to count them and to see that they are right, and then to write them.
-ghost use Rattle.std.specs.Prelude.{◌≤◌, ◌≡◌, length, replicate};
-ghost use Rattle.pen.specs.Written.{Puts};
+ghost use Rattle.std.specs.Prelude.{◌≤◌, ◌≡◌, length, replicate, IfOk};
+ghost use Rattle.pen.specs.Written.{Writes};
 ghost use Rattle.schedule.specs.Reading.{times_at, turns_from};
-ghost use Rattle.schedule.specs.Promises.{Finds};
-ghost use Rattle.schedule.specs.Saids.{Tallies};
+ghost use Rattle.schedule.specs.Results.{Takes, Steps, Counted};
 
-use crate::{Got, token};
+use crate::token::{self, Reader};
+use crate::{Expected, Wrong};
+use pen::Pen;
+use sheet::LIMIT;
 
 // x11 behind a worker's number.
-fn times(text: &[u8], at: usize) -> Got
-    ensures { Finds text.now at (times_at text.now at) result × (result.value ≤ 16384) }
+#[tactic(auto, unfolding(crate::specs::Reading::times_at))]
+fn times(text: &mut Reader<'_>) -> Result<u64, Wrong>
+    ensures { Takes (λ n. n) text.old (times_at text.old.text.now text.old.at) text.new result }
 {
-    let w = token::word(text, at);
-    let start = w.start;
-    if start == w.end {
-        return token::found(1, at);
-    }
-    if token::small(text[start]) != b'x' {
-        return token::found(1, at);
-    }
-    token::number_in(text, start, start + 1, w.end, 1, 16384, 18)
+    let word = text.word();
+    let [b'x' | b'X', digits @ ..] = text.bytes(word.start, word.end) else {
+        return Ok(1);
+    };
+    let times = token::number_in(digits, 1, LIMIT as u64).ok_or(Wrong {
+        at: word.start,
+        what: Expected::Times,
+    })?;
+    text.at = word.end;
+    Ok(times)
 }
 
-// How many turns a line lists from a place on; more than a sheet holds are not counted any further, so that no number overflows.
-pub fn count(text: &[u8], at: usize) -> Got
-    ensures { Tallies text.now at (turns_from (length text.now) text.now at) result }
+// The next worker's turns: whose they are, and how many; none where the line ends.
+#[tactic(auto, using(crate::proofs::Spans::reach_then, crate::proofs::Turning::word_inside), unfolding(crate::specs::Reading::turns_from))]
+fn next(text: &mut Reader<'_>) -> Result<Option<(u8, u64)>, Wrong>
+    ensures { Steps text.old text.new result }
 {
-    let mut from = at;
-    let mut count: u64 = 0;
-    loop {
-        let w = token::word(text, from);
-        if w.start == w.end {
-            return token::found(count, w.start);
-        }
-        let worker = token::number(text, from, 255, 17);
-        if worker.what != 0 {
-            return token::missing(worker.at, worker.what);
-        }
-        let often = times(text, worker.at);
-        if often.what != 0 {
-            return token::missing(often.at, often.what);
-        }
-        if count <= 16384 {
-            count += often.value;
-        }
-        from = often.at;
+    let word = text.word();
+    if word.is_empty() {
+        text.at = word.start;
+        return Ok(None);
     }
+    let worker = text.number(u64::from(u8::MAX), Expected::Turn)?;
+    let times = times(text)?;
+    Ok(Some((worker as u8, times)))
+}
+
+// How many turns a line lists; a count past the highest number stays there, which is more than a sheet holds.
+pub fn count(text: &mut Reader<'_>) -> Result<u64, Wrong>
+    ensures { Counted text.old (turns_from (length text.old.text.now) text.old.text.now text.old.at) text.new result }
+{
+    let mut count: u64 = 0;
+    while let Some((_, times)) = next(text)? {
+        count = count.saturating_add(times);
+    }
+    Ok(count)
 }
 
 // So many of one byte.
-fn repeat(out: &mut [u8], at: usize, byte: u8, times: u64) -> usize
-    ensures { Puts out.old at (replicate times byte) out.new result }
+fn repeat(pen: &mut Pen<'_>, byte: u8, times: u64)
+    ensures { Writes pen.old (replicate times byte) pen.new }
 {
-    let mut next = at;
-    let mut i: u64 = 0;
-    while i < times {
-        next = pen::byte(out, next, byte);
-        i += 1;
+    for _ in 0..times {
+        pen.byte(byte);
     }
-    next
 }
 
 // Writes the turns that a line lists from a place on, where they are right.
-pub fn list(text: &[u8], at: usize, out: &mut [u8], written: usize) -> usize
+pub fn list(pen: &mut Pen<'_>, text: &[u8], at: usize)
     ensures { (turns_from (length text.now) text.now at).what ≡ 0 →
-        Puts out.old written (turns_from (length text.now) text.now at).bytes out.new result }
+        Writes pen.old (turns_from (length text.now) text.now at).bytes pen.new }
 {
-    let mut from = at;
-    let mut next = written;
-    loop {
-        let w = token::word(text, from);
-        if w.start == w.end {
-            return next;
-        }
-        let worker = token::number(text, from, 255, 17);
-        if worker.what != 0 {
-            return next;
-        }
-        let often = times(text, worker.at);
-        if often.what != 0 {
-            return next;
-        }
-        next = repeat(out, next, worker.value as u8, often.value);
-        from = often.at;
+    let mut text = Reader { text, at };
+    while let Some((worker, times)) = next(&mut text).unwrap_or(None) {
+        repeat(pen, worker, times);
     }
 }

@@ -1,155 +1,137 @@
-// From a sheet to its text. Each function writes a part of a line from a place of the buffer on, and tells the place after what it wrote.
-ghost use Rattle.std.specs.Prelude.{◌≡◌, drop};
-ghost use Rattle.pen.specs.Written.{Puts};
-ghost use Rattle.sheet.specs.Fields.{read_field};
-ghost use Rattle.sheet.specs.Fields.{Whole};
-ghost use Rattle.schedule.specs.Writing.{things, floor_text, ticket_text, verb_text, call_text, same_as, run_text, turns_text, field_text};
-ghost use Rattle.schedule.specs.Promises.{Recites};
+// From a sheet to its text. Each function writes a part of a line with a pen.
+#![tactic(auto, using(pen::proofs::Putting::pens), unfolding(pen::specs::Words::bytes, crate::specs::Writing::things, crate::specs::Writing::floor_text, crate::specs::Writing::ticket_text, crate::specs::Writing::verb_text, crate::specs::Writing::call_text, crate::specs::Writing::run_text))]
 
-use crate::Recited;
+ghost use Rattle.std.specs.Prelude.{◌≡◌, ◌≤◌, length};
+ghost use Rattle.pen.specs.Written.{Writes};
+ghost use Rattle.sheet.specs.Fields.{read_field};
+ghost use Rattle.sheet.specs.Fields.Read.{Whole};
+ghost use Rattle.schedule.specs.Writing.{things, floor_text, ticket_text, verb_text, call_text, same_as, run_text, turns_text, field_text};
+ghost use Rattle.schedule.specs.Results.{Tells};
+
 use engine::Plan;
+use pen::Pen;
 use sheet::{Call, Field, reading};
 use turn::record;
 
-// The highest ticket that four bytes hold.
-const FOUR_BYTES: u64 = 4294967295;
-
 // A number of things, by their name without the s.
-fn things(out: &mut [u8], at: usize, n: u64, name: &[u8]) -> usize
-    ensures { Puts out.old at (things n name.now) out.new result }
+fn things(pen: &mut Pen<'_>, n: u64, name: &[u8])
+    ensures { Writes pen.old (things n name.now) pen.new }
 {
-    let number = pen::number(out, at, n);
-    let named = pen::words(out, number, name);
-    if n == 1 {
-        return named;
+    pen.number(n);
+    pen.words(name);
+    if n != 1 {
+        pen.words(b"s");
     }
-    pen::words(out, named, b"s")
 }
 
 // The line of a floor.
-fn floor(out: &mut [u8], at: usize, plan: Plan) -> usize
-    ensures { Puts out.old at (floor_text plan) out.new result }
+fn floor(pen: &mut Pen<'_>, plan: Plan)
+    ensures { Writes pen.old (floor_text plan) pen.new }
 {
-    let head = pen::words(out, at, b"floor ");
-    let workers = things(out, head, plan.workers as u64, b" worker");
-    let space = pen::words(out, workers, b" ");
-    let buckets = things(out, space, plan.buckets as u64, b" bucket");
-    let version = pen::told(out, buckets, b" version ", plan.version as u64);
-    pen::words(out, version, b"\n")
+    pen.words(b"floor ");
+    things(pen, plan.workers as u64, b" worker");
+    pen.words(b" ");
+    things(pen, plan.buckets as u64, b" bucket");
+    pen.told(b" version ", u64::from(plan.version));
+    pen.words(b"\n");
 }
 
-// An insert's ticket.
-fn ticket(out: &mut [u8], at: usize, call: Call, long: bool) -> usize
-    ensures { Puts out.old at (ticket_text call long) out.new result }
+// An insert's ticket; one of eight bytes that four would hold is called long.
+fn ticket(pen: &mut Pen<'_>, call: Call, long: bool)
+    ensures { Writes pen.old (ticket_text call long) pen.new }
 {
-    if long && call.ticket <= FOUR_BYTES {
-        return pen::told(out, at, b" long ticket ", call.ticket);
+    if long && call.ticket <= u64::from(u32::MAX) {
+        pen.told(b" long ticket ", call.ticket);
+    } else {
+        pen.told(b" ticket ", call.ticket);
     }
-    pen::told(out, at, b" ticket ", call.ticket)
 }
 
 // What a worker does.
-fn verb(out: &mut [u8], at: usize, call: Call, long: bool) -> usize
-    ensures { Puts out.old at (verb_text call long) out.new result }
+fn verb(pen: &mut Pen<'_>, call: Call, long: bool)
+    ensures { Writes pen.old (verb_text call long) pen.new }
 {
-    if call.kind == record::LOOK {
-        return pen::told(out, at, b" looks for lot ", call.lot);
+    match call.kind {
+        record::LOOK => pen.told(b" looks for lot ", call.lot),
+        record::INSERT => {
+            pen.told(b" inserts lot ", call.lot);
+            ticket(pen, call, long);
+        }
+        _ => pen.told(b" removes lot ", call.lot),
     }
-    if call.kind == record::INSERT {
-        let next = pen::told(out, at, b" inserts lot ", call.lot);
-        return ticket(out, next, call, long);
-    }
-    pen::told(out, at, b" removes lot ", call.lot)
 }
 
 // The line of a call.
-fn call(out: &mut [u8], at: usize, call: Call, long: bool) -> usize
-    ensures { Puts out.old at (call_text call long) out.new result }
+fn call(pen: &mut Pen<'_>, call: Call, long: bool)
+    ensures { Writes pen.old (call_text call long) pen.new }
 {
-    let who = pen::told(out, at, b"worker ", call.worker as u64);
-    let does = verb(out, who, call, long);
-    pen::words(out, does, b"\n")
+    pen.told(b"worker ", u64::from(call.worker));
+    verb(pen, call, long);
+    pen.words(b"\n");
 }
 
-// How many turns from a place on are this worker's, one after another.
-fn same_as(turns: &[u8], at: usize, worker: u8) -> usize
-    ensures { result ≡ same_as worker (drop at turns.now) }
+// How many turns at the head are this worker's, one after another.
+fn same_as(turns: &[u8], worker: u8) -> usize
+    ensures is { result ≡ same_as worker turns.now }
+    ensures within { result ≤ length turns.now }
 {
-    let mut i = at;
-    while i < turns.len() {
-        if turns[i] != worker {
-            return i - at;
+    for (i, &turn) in turns.iter().enumerate() {
+        if turn != worker {
+            return i;
         }
-        i += 1;
     }
-    i - at
+    turns.len()
 }
 
 // Turns of one worker, one after another.
-fn run(out: &mut [u8], at: usize, worker: u8, times: usize) -> usize
-    ensures { Puts out.old at (run_text worker times) out.new result }
+fn run(pen: &mut Pen<'_>, worker: u8, times: usize)
+    ensures { Writes pen.old (run_text worker times) pen.new }
 {
-    let next = pen::told(out, at, b" ", worker as u64);
-    if times == 1 {
-        return next;
+    pen.told(b" ", u64::from(worker));
+    if times != 1 {
+        pen.told(b" x", times as u64);
     }
-    pen::told(out, next, b" x", times as u64)
 }
 
 // The line of turns.
-fn turns(out: &mut [u8], at: usize, turns: &[u8]) -> usize
-    ensures { Puts out.old at (turns_text turns.now) out.new result }
+fn turns(pen: &mut Pen<'_>, turns: &[u8])
+    ensures { Writes pen.old (turns_text turns.now) pen.new }
 {
-    let mut next = pen::words(out, at, b"turns");
-    let mut i = 0;
-    while i < turns.len() {
-        let worker = turns[i];
-        let times = 1 + same_as(turns, i + 1, worker);
-        next = run(out, next, worker, times);
-        i += times;
+    pen.words(b"turns");
+    let mut rest = turns;
+    while let Some((&worker, behind)) = rest.split_first() {
+        let same = same_as(behind, worker);
+        run(pen, worker, 1 + same);
+        rest = &behind[same..];
     }
-    pen::words(out, next, b"\n")
+    pen.words(b"\n");
 }
 
 // The line of a field that was read at a place.
-fn line(sheet: &[u8], at: usize, field: Field, next: usize, out: &mut [u8], written: usize) -> usize
+fn line(pen: &mut Pen<'_>, sheet: &[u8], at: usize, field: Field, next: usize)
     requires { read_field sheet.now at ≡ Whole field next }
-    ensures { Puts out.old written (field_text sheet.now at field next) out.new result }
+    ensures { Writes pen.old (field_text sheet.now at field next) pen.new }
 {
     match field {
-        Field::Opening(plan) => floor(out, written, plan),
-        Field::Calling(asked) => call(out, written, asked, next - at == 21),
-        Field::Turning(span) => {
-            let start = span.start;
-            let end = span.end;
-            turns(out, written, &sheet[start..end])
-        }
+        Field::Opening(plan) => floor(pen, plan),
+        Field::Calling(asked) => call(pen, asked, next - at == 21),
+        Field::Turning(span) => turns(pen, &sheet[span.start..span.end]),
     }
 }
 
-// The lines of a sheet, field after field, till its end or a field that is malformed.
-pub fn lines(sheet: &[u8], out: &mut [u8]) -> Recited
-    ensures { Recites sheet.now out.old out.new result }
+// The lines of a sheet, field after field, to its end; or to a field that is malformed, and where that is.
+pub fn lines(pen: &mut Pen<'_>, sheet: &[u8]) -> Result<usize, usize>
+    ensures { Tells sheet.now pen.old pen.new result }
 {
-    let mut written = 0;
     let mut at = 0;
     loop {
         let Some(found) = reading::read(sheet, at) else {
-            return Recited {
-                written,
-                at,
-                whole: false,
-            };
+            return Err(at);
         };
-        let next = found.next;
-        written = line(sheet, at, found.field, next, out, written);
-        if next == sheet.len() {
-            return Recited {
-                written,
-                at: next,
-                whole: true,
-            };
+        line(pen, sheet, at, found.field, found.next);
+        if found.next == sheet.len() {
+            return Ok(found.next);
         }
-        at = next;
+        at = found.next;
     }
 }

@@ -7,8 +7,7 @@ use lib.ListN.{length, take, drop, length-append}
 use lib.Seq.{take_at}
 use Rattle.pen.specs.Words.{bytes}
 use Rattle.pen.specs.Decimal.{decimal}
-use Rattle.sheet.specs.Written.{wrote, Wrote}
-use Rattle.pen.specs.Written.{Puts}
+use Rattle.pen.specs.Written.{wrote, Wrote, Puts}
 use Rattle.pen.proofs.Putting.{puts_all}
 use Rattle.pen.proofs.Writing.{wrote_within}
 use Rattle.pen.proofs.Decimal.{decimal_short}

@@ -3,6 +3,7 @@
 
 ghost use Rattle.scribe.specs.Answers.{text_answer, sheet_answer, answer, Answers};
 
+use pen::Pen;
 use schedule::TEXT;
 use sheet::LIMIT;
 use std::io;
@@ -15,61 +16,81 @@ const MOST: usize = 262144;
 const SAID: usize = 256;
 
 // How many bytes stand in the buffer for standard output, and in that for standard error.
-#[derive(Clone, Copy)]
+#[derive(Clone, Copy, Debug, PartialEq, Eq, Hash)]
 struct Answered {
     written: usize,
     said: usize,
 }
 
 // A text becomes its sheet.
+#[tactic(auto, using(pen::proofs::Putting::pens))]
 fn of_text(text: &[u8], out: &mut [u8; TEXT], said: &mut [u8; SAID]) -> Answered
     ensures { Answers (text_answer text.now) out.new said.new result }
 {
     if text.len() > MOST {
-        let said = pen::words(said, 0, b"too long: a text has at most 262144 bytes\n");
-        return Answered { written: 0, said };
+        let mut pen = Pen { out: said, at: 0 };
+        pen.words(b"too long: a text has at most 262144 bytes\n");
+        return Answered {
+            written: 0,
+            said: pen.at,
+        };
     }
     let mut sheet = [0u8; LIMIT + 1];
-    let made = schedule::sheet_of(text, &mut sheet);
-    if made.what != 0 {
-        let mut line = [0u8; SAID];
-        let long = schedule::complain(text, made.at, made.what, &mut line);
-        let said = pen::words(said, 0, &line[..long]);
-        return Answered { written: 0, said };
+    match schedule::sheet_of(text, &mut sheet) {
+        Ok(made) => {
+            let mut pen = Pen { out, at: 0 };
+            pen.words(&sheet[..made.written]);
+            Answered {
+                written: pen.at,
+                said: 0,
+            }
+        }
+        Err(stopped) => Answered {
+            written: 0,
+            said: schedule::complain(text, stopped.wrong.at, stopped.wrong.what.number(), said),
+        },
     }
-    let end = made.written;
-    let written = pen::words(out, 0, &sheet[..end]);
-    Answered { written, said: 0 }
 }
 
 // A sheet becomes its text.
+#[tactic(auto, using(pen::proofs::Putting::pens))]
 fn of_sheet(sheet: &[u8], out: &mut [u8; TEXT], said: &mut [u8; SAID]) -> Answered
     ensures { Answers (sheet_answer sheet.now) out.new said.new result }
 {
+    let mut pen = Pen { out: said, at: 0 };
     if sheet.len() > LIMIT {
-        let said = pen::words(said, 0, b"no sheet: longer than 16384 bytes\n");
-        return Answered { written: 0, said };
+        pen.words(b"no sheet: longer than 16384 bytes\n");
+        return Answered {
+            written: 0,
+            said: pen.at,
+        };
     }
-    let recited = schedule::recite(sheet, out);
-    if !recited.whole {
-        let place = pen::told(said, 0, b"no sheet: the field at ", recited.at as u64);
-        let said = pen::words(said, place, b" is malformed\n");
-        return Answered { written: 0, said };
-    }
-    Answered {
-        written: recited.written,
-        said: 0,
+    match schedule::recite(sheet, out) {
+        Ok(recited) => Answered {
+            written: recited.written,
+            said: 0,
+        },
+        Err(malformed) => {
+            pen.told(b"no sheet: the field at ", malformed.at as u64);
+            pen.words(b" is malformed\n");
+            Answered {
+                written: 0,
+                said: pen.at,
+            }
+        }
     }
 }
 
 // The answer for an input.
+#[tactic(auto, unfolding(crate::specs::Answers::answer))]
 fn answer_of(input: &[u8], out: &mut [u8; TEXT], said: &mut [u8; SAID]) -> Answered
     ensures { Answers (answer input.now) out.new said.new result }
 {
     if schedule::is_text(input) {
-        return of_text(input, out, said);
+        of_text(input, out, said)
+    } else {
+        of_sheet(input, out, said)
     }
-    of_sheet(input, out, said)
 }
 
 // An input comes in, and its answer goes out.
@@ -79,8 +100,6 @@ fn main(rt: HostRuntime) -> io::Result<()> {
     let mut said = [0u8; SAID];
     let read = intake::fill(&mut rt.stdin(), &mut input)?;
     let answer = answer_of(&input[..read], &mut out, &mut said);
-    let written = answer.written;
-    let told = answer.said;
-    rt.stdout().write_all(&out[..written])?;
-    rt.stderr().write_all(&said[..told])
+    rt.stdout().write_all(&out[..answer.written])?;
+    rt.stderr().write_all(&said[..answer.said])
 }
