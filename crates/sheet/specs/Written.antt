@@ -1,2 +1,3 @@
 -- What stands in a buffer after something was written to it.
-pub use Rattle.pen.specs.Written.{wrote, Wrote}
+unfoldable pub use Rattle.pen.specs.Written.{wrote}
+pub use Rattle.pen.specs.Written.{Wrote}
