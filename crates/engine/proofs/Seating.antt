@@ -275,10 +275,6 @@ module _ (old : List ℕ) (n : ℕ) where
     one_word : mark ≡ 1 → lot_word old b p ≡ word ∷ []
     one_word valid = rw (mark_at_lem old b, eq-eqb mark 1 valid)
 
-    -- one that is not valid has no lot to seat
-    pub slot_empty : (mark ≡ 1 → ⊥) → SeatsMore old n (lot_word old b p) from from false
-    slot_empty other = rw (mark_at_lem old b, ne_eqb mark 1 other) (seats_none from)
-
     module _ (valid : mark ≡ 1) (w h : ℕ) (at : w ≡ word) (home_is : h ≡ bucket_of (get_or old w 0) n) where
       homed : 3 * h ≡ 3 * bucket_of (get_or old word 0) n
       homed = ap (λ (k : ℕ). 3 * k) (home_is ∙ ap (λ (k : ℕ). bucket_of (get_or old k 0) n) at)

@@ -16,14 +16,13 @@ use Rattle.turn.specs.Number.{number, result_number}
 use Rattle.turn.specs.Turn.{Answer, Refused, Done, Said, Tried, Turned, After, after, number_of, answer_of, tried_as}
 use Rattle.turn.specs.Retire.{Retired, retired_as}
 use Rattle.turn.proofs.Refusing.{number_some, retired_told}
-use Rattle.engine.specs.declared.Begun.{Begun}
 use Rattle.floor.specs.declared.list.Done.{Done as TurnTaken}
 use Rattle.engine.specs.declared.Floor.{Floor}
 use Rattle.engine.specs.declared.Seat.{Seat}
 use Rattle.engine.specs.Calls.{Counted}
 use Rattle.engine.specs.Calls.{Refusal, Lots}
-use Rattle.engine.specs.Calls.{Started, started_as, blank, record_in, seat_in, tried, records_left, counted_as, counted_number}
-use Rattle.engine.specs.Promises.{StartDone, CountDone}
+use Rattle.engine.specs.Calls.{blank, record_in, seat_in, tried, records_left, counted_as, counted_number}
+use Rattle.engine.specs.Promises.{CountDone}
 use Rattle.engine.proofs.Answers.{counted_told}
 use Rattle.engine.specs.Firsts.{firsts}
 use Rattle.engine.proofs.Turns.{tried_is_turned}
@@ -38,10 +37,10 @@ use Rattle.floor.specs.declared.TurnOutcome.{TurnOutcome}
 use Rattle.floor.specs.declared.CountOutcome.{CountOutcome}
 use Rattle.floor.specs.declared.TotalOutcome.{TotalOutcome}
 use Rattle.floor.specs.declared.NextOutcome.{NextOutcome}
-use Rattle.floor.specs.Told.{start_told, turn_told, count_told, total_told, next_told}
+use Rattle.floor.specs.Told.{turn_told, count_told, total_told, next_told}
 use Rattle.floor.specs.Lent.{beside}
 use Rattle.floor.specs.Calls.{OnList, on_list, said_as, answered_as, step_in, sleepers, say_in, turn_in}
-use Rattle.floor.specs.Promises.{StartLeft, TurnLeft, RetireLeft, CountLeft, TotalLeft, NextLeft}
+use Rattle.floor.specs.Promises.{TurnLeft, RetireLeft, CountLeft, TotalLeft, NextLeft}
 use Rattle.floor.proofs.Beside.{all_beside}
 use Rattle.hall.proofs.Plain.{hall_turn_number_lem}
 
@@ -62,16 +61,6 @@ put_back :
 put_back {D} {R} worker rest core board records f i w o board' records' e₁ e₂ e₃ =
     let put : After D → After (OnList R) = λ x. after x.words (on_list (set records i (worker x.handed)) (rest x.handed)) in
     rw (e₃, ← e₁) (ap put e₂)
-
--- a start
-pub start_left :
-    {B : Type 0} (start : List ℕ → Seat → Worker → B → Started) (board : List ℕ) (records : List Worker) (f : Floor) (i : ℕ) (b : B) (w : Worker)
-    (r : Result Begun Why) (records' : List Worker)
-    → w ≡ record_in records i
-    → StartDone start board (seat_in f records i) w b r
-    → records' ≡ set records i (started_as f w r).worker
-    → StartLeft start board records f i b records' (start_told (started_as f w r))
-start_left start board records f i b w r records' e₁ e₂ e₃ = record { whole = rw (e₃, e₂.whole, e₁) }
 
 -- a turn as far as it concerns its own worker
 pub steps_in :

@@ -1,7 +1,6 @@
 -- A leaf that gives a worker of the list its turn, whatever it hands back that says how the turn came out, as a step of a caller's walk: board, list
--- and index go to the leaf, each with a share of
--- its lifetime's token, from the head of the context; their last states are said, their borrows are there, closed, and the tokens are back.
--- Assumes `Logic`, and that the leaf meets its contract.
+-- and index go to the leaf, each with a share of its lifetime's token, from the head of the context; their last states are said, their borrows are
+-- there, closed, and the tokens are back. Assumes `Logic`, and that the leaf meets its contract.
 use mathlib.Core.Path.{◌≡◌, refl}
 use Prim.Native.Nat.{ℕ, ◌<◌, ◌^◌}
 use mathlib.Core.List.{List, [], ◌∷◌}

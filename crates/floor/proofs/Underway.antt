@@ -1,5 +1,5 @@
 -- A run that is under way: what is left to run from where it stands comes to what the whole comes to. Assumes nothing.
-use Prim.Native.Nat.{ℕ, ◌+◌, ◌-◌, ◌<◌, ◌≤◌}
+use Prim.Native.Nat.{ℕ, ◌+◌, ◌<◌, ◌≤◌}
 use mathlib.Core.Bool.{Bool, true, false, cond}
 use mathlib.Core.Path.{◌≡◌, refl, sym, ap, subst, ◌∙◌}
 use mathlib.Core.List.{List, ◌∷◌}
@@ -13,7 +13,7 @@ use Rattle.std.proofs.Common.{Ok, Err}
 use Rattle.turn.specs.declared.refusal.Refusal.{Refusal}
 use Rattle.turn.specs.Number.{number as number_of_why}
 use Rattle.turn.proofs.Refusing.{number_some}
-use Rattle.mark.proofs.Choices.{passes, by_cases}
+use Rattle.mark.proofs.Choices.{passes}
 use Rattle.turn.specs.declared.Worker.{Worker}
 use Rattle.turn.specs.Turn.{Said}
 use Rattle.turn.specs.declared.Report.{Report}
@@ -188,12 +188,6 @@ module _ (f : Floor) (ts : List ℕ) where
                 ∙ under.comes;
             going = λ more. absurd (omega (arith, under.end));
           })
-
-      -- one turn more is behind it
-      pub nearer : (s : Said) → length ts - (gone_on r s).at < length ts - i
-      unfolding gone_on
-      nearer s = by_cases (λ (n : Running). length ts - n.at < length ts - i) (eqb s.refusal 0) _ _
-          (λ done. rw (lt-ltb i r.end less) (omega arith)) (λ refused. omega (arith, under.end))
 
       pub goes_on :
           (s : Said) (board' : List ℕ) (records' : List Worker) (index' : List ℕ)

@@ -60,8 +60,8 @@ fn beside(worker: usize, at: usize, w: Worker) -> Worker
 fn sleep_beside(records: &mut [Worker], worker: usize)
     ensures { records.new ≡ firsts (beside worker) (length records.old) records.old }
 {
-    for at in 0..records.len() {
-        records[at] = beside(worker, at, records[at]);
+    for (at, record) in records.iter_mut().enumerate() {
+        *record = beside(worker, at, *record);
     }
 }
 
