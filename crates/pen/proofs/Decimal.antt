@@ -1,9 +1,9 @@
 -- A number in decimal, digit by digit. Assumes nothing.
-use Prim.Native.Nat.{ℕ, zero, suc, ◌+◌, ◌-◌, ◌/◌, ◌%◌, ◌^◌, ◌<◌, ◌≤◌}
+use Prim.Native.Nat.{ℕ, zero, suc, ◌+◌, ◌/◌, ◌%◌, ◌^◌, ◌<◌, ◌≤◌}
 use mathlib.Core.Path.{◌≡◌, sym, ap, ◌∙◌}
 use mathlib.Core.Bool.{Bool, true, false, cond}
 use mathlib.Core.List.{List, [], ◌∷◌, ◌++◌}
-use native.Mathlib.Nat.{sub-zero, suc-sub-suc, pow-suc}
+use native.Mathlib.Nat.{pow-suc}
 use native.Mathlib.Omega.{arith}
 use lib.Dec.{ltb}
 use lib.ListN.{length, length-append}
@@ -13,12 +13,6 @@ use Rattle.pen.specs.Decimal.{decimal_in, decimal}
 -- the last digit taken off, a number needs one place less
 pub pow_div : (k n : ℕ) → n < 10 ^ suc k → n / 10 < 10 ^ k
 pow_div k n h = omega (arith, rw pow-suc at h)
-
--- a number of more than one digit needs two places or more, and one less with the last digit taken off
-pub tenth : (k n : ℕ) → 10 ≤ n → n < 10 ^ k → (2 ≤ k) × (n / 10 < 10 ^ (k - 1))
-tenth zero n big small = absurd (omega arith)
-tenth (suc zero) n big small = absurd (omega arith)
-tenth (suc (suc k)) n big small = (omega arith, rw (suc-sub-suc (suc k) zero, sub-zero (suc k)) (pow_div (suc k) n small))
 
 -- one digit
 in_one : (k n : ℕ) → n < 10 → decimal_in (suc k) n ≡ (48 + n) ∷ []

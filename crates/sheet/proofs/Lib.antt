@@ -1,6 +1,5 @@
 pub mod AnyBoard
 pub mod Busy
-pub mod Decimal
 pub mod Determined
 pub mod FieldByField
 pub mod FieldIsRun

@@ -1,5 +1,0 @@
--- The number falls with each call.
-use Rattle.pen.proofs.+number.Given as goal
-
-abbrev pub decreases-number : goal.decreases-number
-decreases-number l = l.n
