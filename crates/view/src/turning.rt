@@ -209,7 +209,6 @@ pub fn kind_name(pen: &mut Pen<'_>, kind: u8)
 }
 
 // §9.1: a call that has ended, with its answer.
-#[tactic(auto, using(pen::proofs::Putting::pens), unfolding(pen::specs::Words::bytes, crate::specs::Telling::answer_told))]
 fn answers(pen: &mut Pen<'_>, kind: u8, answer: u64)
     ensures { Writes pen.old (answer_told kind answer) pen.new }
 {
