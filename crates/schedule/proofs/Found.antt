@@ -1,34 +1,25 @@
 -- What was found, at the beginning or the end of the next word. Assumes nothing.
-use Prim.Native.Nat.{ℕ, ◌≤◌}
+use Prim.Native.Nat.{ℕ, ◌-◌, ◌≤◌}
 use mathlib.Core.Bool.{Bool, true, false, cond, ◌&&◌, not, and-eq-true_iff}
 use mathlib.Core.Path.{◌≡◌, refl}
 use mathlib.Core.List.{List}
 use lib.Dec.{leb, eqb}
-use lib.ListN.{length}
+use lib.ListN.{length, take, drop}
 use borrow.Author.Tests.{leb-true}
 use Rattle.std.proofs.Common.{Option, Some, None}
 use Rattle.schedule.specs.declared.Word.{Word}
 use Rattle.schedule.specs.Promises.{Words, Finds}
 use Rattle.schedule.specs.Tokens.{Got, found, missing, past_blanks, is_number, are_digits, value_after, number_at}
-use Rattle.schedule.proofs.Parts.{part}
-use Rattle.schedule.proofs.Spans.{reach_here, reach_then, reach_span}
+use Rattle.schedule.proofs.Spans.{reach_then, reach_span}
 
 module _ {text : List ℕ} {from : ℕ} {w : Word} (word : Words text from w) where
   -- the word was taken
   pub found_end : (value : ℕ) {g : Got} → found value w.end ≡ g → Finds text from g (found value w.end)
   found_end value is = record { is = is; reach = reach_then word.start word.end }
 
-  -- it is not what is expected
-  pub found_start : (what : ℕ) {g : Got} → missing w.start what ≡ g → Finds text from g (missing w.start what)
-  found_start what is = record { is = is; reach = word.start }
-
 -- nothing was found behind the blanks
 pub found_blanks : {text : List ℕ} {from : ℕ} (what : ℕ) {g : Got} → missing (past_blanks text from) what ≡ g → Finds text from g (missing (past_blanks text from) what)
 found_blanks {text} {from} what is = record { is = is; reach = reach_span 0 text from }
-
--- nothing was taken
-pub found_here : {text : List ℕ} {from : ℕ} (value : ℕ) {g : Got} → found value from ≡ g → Finds text from g (found value from)
-found_here {text} {from} value is = record { is = is; reach = reach_here text from }
 
 -- ---- a number
 
@@ -42,7 +33,7 @@ some_said false v n e = cc
 
 module _ {text : List ℕ} {from : ℕ} {w : Word} (word : Words text from w) (most what : ℕ) where
   abbrev digits : List ℕ
-  digits = part text w.start w.end
+  digits = take (w.end - w.start) (drop w.start text)
 
   abbrev said : Option ℕ
   said = cond (is_number 0 most digits) (Some (value_after 0 digits)) None

@@ -11,7 +11,6 @@ pub mod Letters
 pub mod ReadBack
 pub mod Lining
 pub mod Numbers
-pub mod Parts
 pub mod Places
 pub mod Recital
 pub mod Reciting

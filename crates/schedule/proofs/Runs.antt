@@ -11,7 +11,7 @@ use borrow.Author.Tests.{eq-eqb, ne_eqb}
 use Rattle.mark.proofs.Choices.{by_cases}
 use Rattle.pen.specs.declared.Pen.{Pen}
 use Rattle.pen.specs.Written.{Writes}
-use Rattle.pen.proofs.Putting.{writes_none, writes_then}
+use Rattle.pen.proofs.Putting.{writes_then}
 use Rattle.schedule.specs.Writing.{same_as, run_text, runs_text}
 
 module _ (turns : List ℕ) (i worker : ℕ) where
@@ -64,10 +64,6 @@ pub record Telling (turns : List ℕ) (first pen : Pen) (rest : List ℕ) : Type
   pub lines : Writes first so_far pen
   pub same : so_far ++ runs_text more rest ≡ runs_text (length turns) turns
   pub enough : length rest ≤ more
-
--- none is told
-pub telling_starts : (turns : List ℕ) (pen : Pen) → Telling turns pen pen turns
-telling_starts turns pen = record { more = length turns; so_far = []; lines = writes_none pen; same = refl; enough = omega arith }
 
 module _ {turns : List ℕ} {first pen : Pen} {rest : List ℕ} (g : Telling turns first pen rest) where
   -- another is told

@@ -6,7 +6,7 @@ use mathlib.Core.Path.{◌≡◌, refl, sym, ap, ◌∙◌}
 use mathlib.Core.List.{List, [], ◌++◌, append-nil, append_assoc}
 use native.Mathlib.Omega.{arith}
 use lib.Dec.{eqb}
-use lib.ListN.{length, replicate, length-append, length-replicate}
+use lib.ListN.{length, take, drop, replicate, length-append, length-replicate}
 use borrow.Author.Tests.{ne_eqb, eqb-true, eqb-false}
 use Rattle.mark.proofs.Choices.{by_cases}
 use Rattle.schedule.specs.declared.Word.{Word}
@@ -23,7 +23,6 @@ use Rattle.schedule.specs.declared.token.Reader.{Reader}
 use Rattle.schedule.specs.Numbers.{expected_number}
 use Rattle.schedule.specs.Results.{Steps, Counted}
 use Rattle.schedule.proofs.NumberOf.{some_number}
-use Rattle.schedule.proofs.Parts.{part}
 use Rattle.schedule.proofs.Spans.{reach_here, reach_then}
 
 -- turns before those of the rest, where that is right
@@ -60,7 +59,7 @@ pub number_ends :
 unfolding number_at
 number_ends text from most what some =
     let w : Word = word_at text from in
-    by_cases (λ (g : Got). g.what ≡ 0 → g.at ≡ w.end) (is_number 0 most (part text w.start w.end)) _ _ (λ is none. refl) (λ other none. absurd (some none))
+    by_cases (λ (g : Got). g.what ≡ 0 → g.at ≡ w.end) (is_number 0 most (take (w.end - w.start) (drop w.start text))) _ _ (λ is none. refl) (λ other none. absurd (some none))
 
 -- ---- one step
 
