@@ -13,16 +13,7 @@ use turn::{Worker, bucket, record};
 fn is_large(floor: Floor, depth: usize) -> bool
     ensures { result ≡ not_small floor depth }
 {
-    if floor.buckets > 1 {
-        return true;
-    }
-    if floor.workers > 3 {
-        return true;
-    }
-    if depth < 1 {
-        return true;
-    }
-    depth > 24
+    floor.buckets > 1 || floor.workers > 3 || depth < 1 || depth > 24
 }
 
 // §6.1, §6.10, §7.2: why sizes and depth refuse a call, if they do. A run of no turns is refused for its sizes alone.
@@ -46,26 +37,18 @@ pub fn seated(w: Worker, i: usize, listed: usize) -> Worker
     record::idle()
 }
 
+#[tactic(auto, unfolding(turn::specs::Worker::broken))]
 fn is_broken(w: Worker) -> bool
     ensures { result ≡ broken w }
 {
-    if record::is_idle(w) {
-        return false;
-    }
-    !record::is_sound(w)
+    !(record::is_idle(w) || record::is_sound(w))
 }
 
 // §6.3: by the number of the worker.
 fn are_broken(a: Worker, b: Worker, c: Worker) -> bool
     ensures { result ≡ (broken a || (broken b || broken c)) }
 {
-    if is_broken(a) {
-        return true;
-    }
-    if is_broken(b) {
-        return true;
-    }
-    is_broken(c)
+    is_broken(a) || is_broken(b) || is_broken(c)
 }
 
 // §6.3, §6.7, §7.2: why records and bucket refuse a call, if they do.

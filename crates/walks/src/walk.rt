@@ -26,17 +26,9 @@ fn none() -> Walks
 pub fn one(ended: bool, lost: u64) -> Walks
     ensures { result ≡ one_walk ended lost }
 {
-    if ended {
-        return Walks {
-            finished: 1,
-            cut: 0,
-            lost,
-            most: lost,
-        };
-    }
     Walks {
-        finished: 0,
-        cut: 1,
+        finished: u64::from(ended),
+        cut: u64::from(!ended),
         lost,
         most: lost,
     }
@@ -81,13 +73,7 @@ fn lost_by(own: Worker, answer: Result<TurnDone, Refusal>) -> u64
 pub fn are_idle(a: Worker, b: Worker, c: Worker) -> bool
     ensures { result ≡ three_idle a b c }
 {
-    if !record::is_idle(a) {
-        return false;
-    }
-    if !record::is_idle(b) {
-        return false;
-    }
-    record::is_idle(c)
+    record::is_idle(a) && record::is_idle(b) && record::is_idle(c)
 }
 
 // §14.12, §18.3: the walks that begin with a turn of `own`: it has its turn, and where somebody is busy after that, and turns are left, they go
