@@ -8,29 +8,18 @@ use crate::Floor;
 pub fn has_wrong_words(floor: Floor, words: usize) -> bool
     ensures { result ≡ wrong_words floor words }
 {
-    if floor.workers < 1 {
-        return true;
-    }
-    if floor.workers > 64 {
-        return true;
-    }
-    if floor.buckets < 1 {
-        return true;
-    }
-    if floor.buckets > 256 {
-        return true;
-    }
-    words != 8 * floor.buckets
+    floor.workers < 1
+        || floor.workers > 64
+        || floor.buckets < 1
+        || floor.buckets > 256
+        || words != 8 * floor.buckets
 }
 
 // §6.1: W, N, the number of words or the number of records is wrong.
 pub fn are_wrong(floor: Floor, words: usize, listed: usize) -> bool
     ensures { result ≡ wrong_listed floor words listed }
 {
-    if has_wrong_words(floor, words) {
-        return true;
-    }
-    listed != floor.workers
+    has_wrong_words(floor, words) || listed != floor.workers
 }
 
 // §6.1: whether the size of a board is wrong.
