@@ -1,5 +1,7 @@
 // The records of idle and started workers, and whether a record is broken. Kinds are numbers and no enum, since any byte may stand in a record
 // that C lends (`Worker`).
+#![tactic(auto, unfolding(crate::specs::Worker::fits, crate::specs::Worker::may_stand, crate::specs::Worker::ticket_fits, crate::specs::Worker::held_fits, crate::specs::Worker::word_fits))]
+
 ghost use Rattle.std.specs.Prelude.{◌≡◌, ◌||◌, eqb};
 ghost use Rattle.turn.specs.Worker.{idle, started, look_for, insert_of, remove_of, is_idle, within, held_fits, fits, sound};
 
@@ -108,48 +110,21 @@ fn insert_holds(place: u8, held: u8) -> bool
 fn look_fits(place: u8, ticket: u64, held: u8, word: u64) -> bool
     ensures { result ≡ fits 1 place ticket held word }
 {
-    if !look_stands(place) {
-        return false;
-    }
-    if ticket != 0 {
-        return false;
-    }
-    if held != mark::NO_SLOT {
-        return false;
-    }
-    word == 0
+    look_stands(place) && ticket == 0 && held == mark::NO_SLOT && word == 0
 }
 
 // §3.7: what an insert asks of a busy record, beside its slot.
 fn insert_fits(place: u8, ticket: u64, held: u8, word: u64) -> bool
     ensures { result ≡ fits 2 place ticket held word }
 {
-    if !insert_stands(place) {
-        return false;
-    }
-    if ticket < 1 {
-        return false;
-    }
-    if !insert_holds(place, held) {
-        return false;
-    }
-    mark::is_well_formed(word)
+    insert_stands(place) && ticket >= 1 && insert_holds(place, held) && mark::is_well_formed(word)
 }
 
 // §3.7: what a remove asks of a busy record, beside its slot.
 fn remove_fits(place: u8, ticket: u64, held: u8, word: u64) -> bool
     ensures { result ≡ fits 3 place ticket held word }
 {
-    if !remove_stands(place) {
-        return false;
-    }
-    if ticket != 0 {
-        return false;
-    }
-    if held != mark::NO_SLOT {
-        return false;
-    }
-    mark::is_well_formed(word)
+    remove_stands(place) && ticket == 0 && held == mark::NO_SLOT && mark::is_well_formed(word)
 }
 
 // §3.7: whether the fields of a busy record go together: by its kind, so that each is tested once.
