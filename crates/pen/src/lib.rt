@@ -5,6 +5,7 @@
 ghost use Rattle.std.specs.Prelude.{[], ◌∷◌, ◌++◌};
 ghost use Rattle.pen.specs.Written.{Writes};
 ghost use Rattle.pen.specs.Decimal.{decimal};
+ghost use Rattle.pen.specs.Words.{things};
 
 // A lent buffer, and the place in it that is written next.
 #[derive(Drop)]
@@ -50,5 +51,17 @@ impl<'a> Pen<'a> {
     {
         self.words(said);
         self.number(n);
+    }
+
+    // A number of things, by their name without the s.
+    #[tactic(auto, using(crate::proofs::Putting::pens), unfolding(crate::specs::Words::bytes, crate::specs::Words::things))]
+    pub fn things(&mut self, n: u64, name: &[u8])
+        ensures { Writes self.old (things n name.now) self.new }
+    {
+        self.number(n);
+        self.words(name);
+        if n != 1 {
+            self.words(b"s");
+        }
     }
 }

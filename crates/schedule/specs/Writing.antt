@@ -1,4 +1,5 @@
 -- From a sheet to its text: a field of the sheet is a line of the text.
+unfoldable pub use Rattle.pen.specs.Words.{things}
 use Rattle.std.specs.Prelude.{ℕ, zero, suc, ◌+◌, ◌-◌, Bool, true, false, cond, ◌&&◌, List, [], ◌∷◌, ◌++◌, length, drop, eqb, leb}
 use Rattle.turn.specs.Worker.{look_kind, insert_kind}
 use Rattle.engine.specs.declared.Plan.{Plan}
@@ -13,10 +14,6 @@ use Rattle.pen.specs.Decimal.{decimal}
 -- words, and then a number
 abbrev pub told : List ℕ → ℕ → List ℕ
 told words n = words ++ decimal n
-
--- a number of things, by their name: one of it has the name without the s
-unfoldable pub things : ℕ → List ℕ → List ℕ
-things n name = decimal n ++ (name ++ cond (eqb n 1) [] (bytes "s"))
 
 -- the line of a floor
 unfoldable pub floor_text : Plan → List ℕ

@@ -1,11 +1,11 @@
 // From a sheet to its text. Each function writes a part of a line with a pen.
-#![tactic(auto, using(pen::proofs::Putting::pens), unfolding(pen::specs::Words::bytes, crate::specs::Writing::things, crate::specs::Writing::floor_text, crate::specs::Writing::ticket_text, crate::specs::Writing::verb_text, crate::specs::Writing::call_text, crate::specs::Writing::run_text))]
+#![tactic(auto, using(pen::proofs::Putting::pens), unfolding(pen::specs::Words::bytes, pen::specs::Words::things, crate::specs::Writing::floor_text, crate::specs::Writing::ticket_text, crate::specs::Writing::verb_text, crate::specs::Writing::call_text, crate::specs::Writing::run_text))]
 
 ghost use Rattle.std.specs.Prelude.{◌≡◌, ◌≤◌, length};
 ghost use Rattle.pen.specs.Written.{Writes};
 ghost use Rattle.sheet.specs.Fields.{read_field};
 ghost use Rattle.sheet.specs.Fields.Read.{Whole};
-ghost use Rattle.schedule.specs.Writing.{things, floor_text, ticket_text, verb_text, call_text, same_as, run_text, turns_text, field_text};
+ghost use Rattle.schedule.specs.Writing.{floor_text, ticket_text, verb_text, call_text, same_as, run_text, turns_text, field_text};
 ghost use Rattle.schedule.specs.Results.{Tells};
 
 use engine::Plan;
@@ -13,25 +13,14 @@ use pen::Pen;
 use sheet::{Call, Field, reading};
 use turn::record;
 
-// A number of things, by their name without the s.
-fn things(pen: &mut Pen<'_>, n: u64, name: &[u8])
-    ensures { Writes pen.old (things n name.now) pen.new }
-{
-    pen.number(n);
-    pen.words(name);
-    if n != 1 {
-        pen.words(b"s");
-    }
-}
-
 // The line of a floor.
 fn floor(pen: &mut Pen<'_>, plan: Plan)
     ensures { Writes pen.old (floor_text plan) pen.new }
 {
     pen.words(b"floor ");
-    things(pen, plan.workers as u64, b" worker");
+    pen.things(plan.workers as u64, b" worker");
     pen.words(b" ");
-    things(pen, plan.buckets as u64, b" bucket");
+    pen.things(plan.buckets as u64, b" bucket");
     pen.told(b" version ", u64::from(plan.version));
     pen.words(b"\n");
 }

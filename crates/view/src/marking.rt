@@ -12,15 +12,12 @@ use pen::Pen;
 // ---- things, and the ends of lines
 
 // Words, and a number of things by their name.
-#[tactic(auto, using(pen::proofs::Putting::pens), unfolding(pen::specs::Words::bytes, crate::specs::Telling::things))]
+#[tactic(auto, using(pen::proofs::Putting::pens), unfolding(pen::specs::Words::bytes, pen::specs::Words::things, crate::specs::Telling::things))]
 pub fn things(pen: &mut Pen<'_>, said: &[u8], n: u64, name: &[u8])
     ensures { Writes pen.old (things said.now n name.now) pen.new }
 {
-    pen.told(said, n);
-    pen.words(name);
-    if n != 1 {
-        pen.words(b"s");
-    }
+    pen.words(said);
+    pen.things(n, name);
 }
 
 // Words, a number, and the end of the line.
