@@ -1,4 +1,4 @@
-// The program that shows the board, turn by turn.
+// The program that shows the board, turn by turn. What it holds stands in arrays of a fixed size: a proved program has no heap.
 #![tactic(auto)]
 
 use sheet::LIMIT;

@@ -94,7 +94,7 @@ pub struct Touched {
     pub bucket: usize,
 }
 
-// What stands for a record past the end of a list; no call for its worker is accepted.
+// What stands for a record past the end of a list, byte for byte (`BlankMade`); no call for its worker is accepted.
 pub fn blank() -> Worker
     ensures { BlankMade result }
 {
@@ -112,7 +112,7 @@ pub fn blank() -> Worker
 }
 
 // §2.10: opens a floor on a lent board of eight words a bucket, for a list of as many records as there are workers; whoever has the list
-// makes its records idle.
+// makes its records idle. `floor` is the one that stood before, which the promise names (`FloorLaid`).
 pub fn open_floor(
     board: &mut [u64],
     floor: Floor,
@@ -187,7 +187,7 @@ pub fn start(board: &[u64], seat: Seat, w: Worker, asked: Asked) -> Result<Begun
     })
 }
 
-// §7.2: of board and list by their lengths.
+// §7.2: why a start is refused, if it is: of board and list by their lengths.
 #[inline(always)]
 fn start_refusal(
     floor: Floor,
@@ -270,7 +270,8 @@ pub fn retire_refusal(board: &[u64], seat: Seat, w: Worker) -> Result<(), Refusa
     take::retire_refusal(board, floor, w)
 }
 
-// §2.4: the bucket that a turn or a retiring with this lot is about, and its mark word; 0 and 0 where the size of the board is wrong.
+// §2.4: the bucket that a turn or a retiring with this lot is about, and its mark word; 0 and 0 where the size of the board is wrong, so that
+// there is an answer for every board (`BucketTouched`).
 pub fn touched_by(board: &[u64], floor: Floor, lot: u64) -> Touched
     ensures { BucketTouched board.now floor lot result }
 {
@@ -297,7 +298,7 @@ pub fn run_refusal(floor: Floor, words: usize, listed: usize, count: usize) -> R
     Ok(())
 }
 
-// §2.8, §14.4: where a lot's bucket stands on the board that was lent; an empty part where the show is refused.
+// §2.8, §14.4: where a lot's bucket stands on the board that was lent; an empty part where the show is refused, as §2.8 has it (`Shown`).
 pub fn show(board: &[u64], floor: Floor, lot: u64) -> &[u64]
     ensures { Shown board.entry floor lot result }
 {
@@ -310,7 +311,7 @@ pub fn show(board: &[u64], floor: Floor, lot: u64) -> &[u64]
     }
 }
 
-// §2.8: where that part starts on the board, in words; 0 where the show is refused.
+// §2.8: where that part starts on the board, in words, which C needs beside it; 0 where the show is refused.
 pub fn show_start(board: &[u64], floor: Floor, lot: u64) -> usize
     ensures { ShowPlaced board.now floor lot result }
 {

@@ -1,4 +1,4 @@
-// The buckets of the board, and the lots in them.
+// The buckets of the board, and the lots in them. The sizes are asked of the caller: `size` tests them once a call.
 ghost use Rattle.std.specs.Prelude.{◌≡◌, cond, ◌+◌, ◌*◌, ◌≤◌, length};
 ghost use Rattle.turn.specs.Bucket.{broken_bucket};
 ghost use Rattle.engine.specs.Board.{bucket_of, lots_on, any_broken};

@@ -1,4 +1,5 @@
-// The lots' places on a second board: found first, with nothing written, and then filled.
+// The lots' places on a second board: found first, with nothing written, and then filled. The sizes of both boards are asked of the caller,
+// `move_lots`, which tests them once.
 ghost use Rattle.std.specs.Prelude.{◌≡◌, ◌||◌, ◌+◌, ◌*◌, ◌≤◌, length, replicate};
 ghost use Rattle.turn.specs.Number.{result_number};
 ghost use Rattle.engine.specs.Board.{opened_board};
@@ -12,10 +13,11 @@ use turn::refusal::Refusal;
 // How many slots the largest board has.
 pub const SEATS: usize = 768;
 
-// The word that stands for a slot that is still free: it is a ticket's, and so no lot's.
+// The word that stands for a slot that is still free: it is a ticket's, and so no lot's. No Option for each of 768 slots (decision 186).
 pub const FREE: u16 = 4;
 
-// §6.7: whether a bucket is broken, or has a slot that is being inserted.
+// §6.7: whether a bucket is broken, or has a slot that is being inserted. Eight words are asked here and below, since a bucket is a part of
+// the lent board.
 fn is_unsettled(lent: &[u64]) -> bool
     requires { length lent.now ≡ 8 }
     ensures { result ≡ unsettled lent.now }

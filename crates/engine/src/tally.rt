@@ -24,14 +24,14 @@ pub fn changes(place: u8, action: Action) -> u32
 {
     match action {
         Action::Read => 0,
-        // one store is a change
+        // one store is a change: that at place 10
         Action::Store => (place == 10) as u32,
         Action::Won => 1,
         Action::Lost => 0,
     }
 }
 
-// §4.10: 1 for a lost swap, else 0.
+// §4.10: 1 for a lost swap, else 0: a number and no flag, as it is what is added up (`losses`).
 pub fn losses(action: Action) -> u32
     ensures { result ≡ losses action }
 {

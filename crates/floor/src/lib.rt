@@ -1,6 +1,6 @@
 // The desk's library: every call over a lent board, one lent list of worker records and, where it keeps or reads one, a lent index. What holds
-// the list is thin: it takes out the record that the call concerns, lets the engine or the hall go on with it, and puts it back. C calls
-// them by crate floor_c, under these names: include/desk.h.
+// the list is thin: it takes out the record that the call concerns, lets the engine or the hall go on with it, and puts it back. C has
+// them by crate floor_c: include/desk.h.
 #![tactic(auto)]
 
 ghost use Rattle.engine.specs.Calls.{asked_call};
@@ -15,6 +15,8 @@ mod told; // answers that cross to C
 
 // For all orders, which reads the list in a crate of its own (decision 132).
 pub use list::take_at;
+
+// What crosses to C stands in numbers and flags, as include/desk.h has it: C has no Result, no Option and no enum with values.
 
 // The floor as it now stands, and the number of refusal, or 0.
 #[repr(C)]
@@ -110,7 +112,7 @@ pub fn desk_open_floor(
     }
 }
 
-// §1.1, §3.4: starts a look, an insert or a remove on a worker.
+// §1.1, §3.4: starts a look, an insert or a remove on a worker. Built into each of floor_c's three exports, which name what is asked for.
 #[inline(always)]
 pub fn desk_start(
     board: &[u64],
@@ -154,7 +156,7 @@ pub fn desk_turn(
     told::turn(list::turn_at(board, records, index, floor, worker))
 }
 
-// §1.1: retires a worker; the number of refusal, or 0.
+// §1.1: retires a worker; the number of refusal, or 0, as C has it.
 pub fn desk_retire(
     board: &mut [u64],
     records: &mut [Worker],
@@ -244,7 +246,7 @@ pub fn desk_show(board: &[u64], floor: Floor, lot: u64) -> Part
     }
 }
 
-// §2.8: the number of refusal of a show on the same arguments, or 0.
+// §2.8: the number of refusal of a show on the same arguments, or 0, as C has it.
 pub fn desk_show_refusal(board: &[u64], floor: Floor, lot: u64) -> u8
     ensures { ShowNumbered board.now floor lot result }
 {

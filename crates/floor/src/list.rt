@@ -26,7 +26,7 @@ pub fn take_at(records: &[Worker], worker: usize) -> Worker
     records.get(worker).copied().unwrap_or(engine::blank())
 }
 
-// §14.8: a record back into it.
+// §14.8: a record back into it. By its number: through `get_mut` nothing ties the list to what is written.
 pub fn put_at(records: &mut [Worker], worker: usize, w: Worker)
     ensures { records.new ≡ set records.old worker w }
 {
@@ -35,7 +35,7 @@ pub fn put_at(records: &mut [Worker], worker: usize, w: Worker)
     }
 }
 
-// §6.3, §6.12: the number that the records of the list give a move, or 0.
+// §6.3, §6.12: the number that the records of the list give a move, or 0: a number, since a move takes whichever it is given (`RestTested`).
 pub fn rest_refusal(records: &[Worker]) -> u8
     ensures { result ≡ rest_number records.now }
 {

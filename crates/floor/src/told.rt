@@ -12,7 +12,7 @@ use engine::Totals;
 use turn::refusal::Refusal;
 use turn::{Action, Progress, Report};
 
-// §14.9: the number of an action.
+// §14.9: the number of an action, as C is told it.
 fn action(a: Action) -> u8
     ensures { result ≡ action_number a }
 {

@@ -68,7 +68,7 @@ pub fn follow(index: &mut [u64; WORDS], bucket: usize, before: u64, after: u64)
     index[0] = total;
 }
 
-// §22.4: made afresh: each bucket is followed from no mark to the mark word that it has.
+// §22.4: made afresh: each bucket is followed from no mark to the mark word that it has. Whoever calls it has tested how many there are.
 pub fn make(index: &mut [u64; WORDS], board: &[u64], buckets: usize)
     requires { (buckets ≤ 256) × (length board.now ≡ 8 * buckets) }
     ensures { index.new ≡ fresh_index board.now buckets }

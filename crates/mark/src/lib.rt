@@ -88,7 +88,7 @@ pub fn is_well_formed(word: u64) -> bool
     ((above | (above + 0x0001_0101)) & 0xFFFC_FCFC) == 0
 }
 
-// §2.9: what a slot counts for.
+// §2.9: what a slot counts for, with the bound that the sum of three needs.
 fn one_if_valid(word: u64, slot: u8) -> usize
     ensures { (result ≡ is_mark 1 (mark_of word slot)) × (result ≤ 1) }
 {

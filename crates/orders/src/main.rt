@@ -1,4 +1,5 @@
-// The program that walks every order of the turns that a sheet leaves open.
+// The program that walks every order of the turns that a sheet leaves open. What it holds stands in arrays of a fixed size: a proved program
+// has no heap.
 #![tactic(auto)]
 
 ghost use Rattle.sheet.specs.Listing.{played, own_play};
@@ -10,7 +11,8 @@ use std::io::Write;
 use turn::refusal::Refusal;
 use walks::{Class, Walks};
 
-// §18.7: the listing's length, where the sheet was refused; why, and the offset, where all orders was; and else the counts.
+// §18.7: the listing's length, where the sheet was refused; why, and the offset, where all orders was; and else the counts. Three outcomes,
+// two of which are told alike, and so an enum of its own and no Result.
 #[derive(Clone, Copy, Debug, PartialEq, Eq, Hash)]
 enum Answer {
     Listing(usize),

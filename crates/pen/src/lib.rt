@@ -55,12 +55,12 @@ impl<'a> Pen<'a> {
 
     // A number of things, by their name without the s.
     #[tactic(auto, using(crate::proofs::Putting::pens), unfolding(crate::specs::Words::bytes, crate::specs::Words::things))]
-    pub fn things(&mut self, n: u64, name: &[u8])
-        ensures { Writes self.old (things n name.now) self.new }
+    pub fn things(&mut self, count: u64, name: &[u8])
+        ensures { Writes self.old (things count name.now) self.new }
     {
-        self.number(n);
+        self.number(count);
         self.words(name);
-        if n != 1 {
+        if count != 1 {
             self.words(b"s");
         }
     }

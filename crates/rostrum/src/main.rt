@@ -1,4 +1,4 @@
-// The program at the rostrum.
+// The program at the rostrum. Board, sheet and listing stand in arrays of a fixed size: a proved program has no heap.
 #![tactic(auto)]
 
 ghost use Rattle.sheet.specs.Promises.{ListingWritten};

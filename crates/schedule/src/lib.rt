@@ -19,7 +19,7 @@ mod field; // a line as a field of the sheet
 mod saying; // where a text is wrong
 mod writing; // the lines of a sheet
 
-// The most bytes that the text of a sheet takes.
+// The most bytes that the text of a sheet takes: so much room is kept for it, as there is no heap.
 pub const TEXT: usize = 4 * LIMIT + 64;
 
 // The next word of a line, from start to end.
@@ -101,7 +101,8 @@ pub fn sheet_of(text: &[u8], out: &mut [u8; LIMIT + 1]) -> Result<Made, Stopped>
     }
 }
 
-// Line after line. A line is written once it is known to be right and to fit, so that of a wrong one nothing is.
+// Line after line. A line is written once it is known to be right and to fit, so that of a wrong one nothing is. The next line's place comes
+// from the reading of this one.
 fn lines(pen: &mut Pen<'_>, text: &[u8]) -> Result<usize, Wrong>
     requires at_start { pen.old.at ≡ 0 }
     requires room { length pen.old.out.now ≡ 16385 }

@@ -111,7 +111,7 @@ fn verb(text: &mut Reader<'_>) -> Result<u8, Wrong>
     Ok(kind)
 }
 
-// A call by its kind.
+// A call by its kind, which is a byte, as the sheet that is made has it.
 fn by_kind(text: &mut Reader<'_>, worker: u8, kind: u8) -> Result<Entry, Wrong>
     ensures { Hears text.old (kind_line text.old.text.now worker kind text.old.at) text.new result }
 {

@@ -42,7 +42,8 @@ pub struct Reader<'a> {
 }
 
 impl<'a> Reader<'a> {
-    // The place where a run from a place on ends.
+    // The place where a run from a place on ends. By `for`: `take_while(..).count()` was tried, and its proof did not close, since the closure
+    // holds the run.
     fn past(&self, at: usize, run: Run) -> usize
         ensures { result ≡ at + span (run_number run) (drop at self.now.text.now) }
     {
@@ -166,7 +167,7 @@ fn small(byte: u8) -> u8
     byte.to_ascii_lowercase()
 }
 
-// Whether a word says this, in letters of either form.
+// Whether a word says this, in letters of either form. By `for`: with `zip(..).all(..)` the proof did not close.
 fn is_said(word: &[u8], said: &[u8]) -> bool
     ensures { result ≡ same (map small word.now) said.now }
 {

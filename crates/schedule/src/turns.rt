@@ -61,7 +61,7 @@ fn repeat(pen: &mut Pen<'_>, byte: u8, times: u64)
     }
 }
 
-// Writes the turns that a line lists from a place on, where they are right.
+// Writes the turns that a line lists from a place on, where they are right. It reads them anew, with a reader of its own.
 pub fn list(pen: &mut Pen<'_>, text: &[u8], at: usize)
     ensures { (turns_from (length text.now) text.now at).what ≡ 0 →
         Writes pen.old (turns_from (length text.now) text.now at).bytes pen.new }

@@ -59,7 +59,7 @@ fn call(pen: &mut Pen<'_>, call: Call, long: bool)
     pen.words(b"\n");
 }
 
-// How many turns at the head are this worker's, one after another.
+// How many turns at the head are this worker's, one after another. By `for`, for the reason of `token::past`.
 fn same_as(turns: &[u8], worker: u8) -> usize
     ensures is { result ≡ same_as worker turns.now }
     ensures within { result ≤ length turns.now }
@@ -108,7 +108,8 @@ fn line(pen: &mut Pen<'_>, sheet: &[u8], at: usize, field: Field, next: usize)
     }
 }
 
-// The lines of a sheet, field after field, to its end; or to a field that is malformed, and where that is.
+// The lines of a sheet, field after field, to its end; or to a field that is malformed, and where that is. The next place comes from the
+// reading of this one, here and in `turns`.
 pub fn lines(pen: &mut Pen<'_>, sheet: &[u8]) -> Result<usize, usize>
     ensures { Tells sheet.now pen.old pen.new result }
 {

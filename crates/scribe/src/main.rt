@@ -1,4 +1,5 @@
-// The program that turns a text into its sheet, and a sheet into its text.
+// The program that turns a text into its sheet, and a sheet into its text. What it holds stands in arrays of a fixed size: a proved program
+// has no heap.
 #![tactic(auto)]
 
 ghost use Rattle.scribe.specs.Answers.{text_answer, sheet_answer, answer, Answers};

@@ -21,7 +21,7 @@ pub use play::start;
 pub const LIMIT: usize = 16384;
 
 // Every listing fits: an E line of 37 bytes for each 13 of the longest sheet, and a last line of 26. A call has one E line, whose answer has
-// 20 digits at most, and takes a field of 13 bytes at least, as a look's and a remove's; an insert's is longer, 17 or 21.
+// 20 digits at most, and takes a field of 13 bytes at least, as a look's and a remove's; an insert's is longer, 17 or 21. There is no heap.
 pub const ROOM: usize = 37 * LIMIT / 13 + 26;
 
 // A call that a sheet asks for.
@@ -85,7 +85,7 @@ struct Stop {
     offset: usize,
 }
 
-// §2.2: how many words of a board the sheet's floor asks for.
+// §2.2: how many words of a board the sheet's floor asks for; none where it has no floor that fits (`BoardAsked`).
 #[tactic(auto, using(crate::proofs::Fielding::first_field), unfolding(crate::specs::Listing::words_asked))]
 pub fn words(sheet: &[u8]) -> usize
     ensures { BoardAsked sheet.now result }
@@ -138,7 +138,8 @@ pub fn stand(sheet: &[u8], board: &mut [u64], out: &mut [u8; ROOM]) -> Result<Pl
     }
 }
 
-// §6.9, §14.6: field after field, from a shut desk. All that is listed of them is written but the last line.
+// §6.9, §14.6: field after field, from a shut desk. All that is listed of them is written but the last line. The next place comes from the
+// reading of this one, so that no for has it.
 fn fields(sheet: &[u8], board: &mut [u64], desk: &mut Desk, pen: &mut Pen<'_>) -> Result<(), Stop>
     requires { desk.old ≡ shut_desk }
     ensures { Stands (played sheet.now board.old) pen.old pen.new board.new (told_by desk.new result) }

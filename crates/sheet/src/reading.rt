@@ -1,4 +1,5 @@
-// The fields of a sheet: tag, length, value.
+// The fields of a sheet: tag, length, value. Tags and kinds are bytes of the sheet, and any byte may stand there. What reads a value asks for
+// one that is whole (`Value`): `read` has tested it.
 ghost use Rattle.std.specs.Prelude.{◌≡◌, true, ◌+◌, ◌≤◌, ◌<◌, ◌^◌, length};
 ghost use Rattle.sheet.specs.Fields.{number_at, call_fits, ticket_at, opening_at, calling_at, turning_at, read_of, read_field, Value};
 

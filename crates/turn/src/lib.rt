@@ -38,7 +38,8 @@ pub enum Action {
     Lost,
 }
 
-// §4.8, §14.3: where the call stands after a turn; one that has ended has its answer here.
+// §4.8, §14.3: where the call stands after a turn; one that has ended has its answer here. An enum with these words and no Option: §14.3 asks
+// for it.
 #[derive(Clone, Copy, Debug, PartialEq, Eq, Hash)]
 pub enum Progress {
     GoesOn,

@@ -199,8 +199,8 @@ fn swap(bucket: &mut [u64], expected: u64, new: u64, won: Stepped, lost: Stepped
     lost
 }
 
-// §4.1, §14.1: the place decides what a turn does, one memory action and what follows it. No call is at place 0 or past 13: a turn there is
-// refused before it comes here.
+// §4.1, §14.1: the place decides what a turn does, one memory action and what follows it. One match over the place's number, as §14.1 asks.
+// No call is at place 0 or past 13: a turn there is refused before it comes here.
 pub fn step(bucket: &mut [u64], w: Worker) -> Stepped
     requires { Ready bucket.old w }
     ensures { leaves bucket.new result ≡ turn bucket.old w }

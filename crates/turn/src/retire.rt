@@ -25,7 +25,8 @@ pub fn retire_refusal(lent: &[u64], w: Worker) -> Result<(), Refusal>
     held_refusal(lent, w)
 }
 
-// §19.2: gives a held slot back: its mark and the version in one store.
+// §19.2: gives a held slot back: its mark and the version in one store. Eight words are asked only where a slot is held, as nothing else has
+// tested the bucket.
 fn vacate(lent: &mut [u64], w: Worker)
     requires { (w.held ≡ 3 → ⊥) → length lent.old ≡ 8 }
     ensures { lent.new ≡ vacated lent.old w }

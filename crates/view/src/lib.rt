@@ -15,13 +15,14 @@ mod turning; // the words of a turn
 mod telling; // the words of a scene
 mod show; // a page of the board's text, and the refusal alone
 
-// The room that is enough for a page: 1024 bytes for each of its scenes, and at the end 81 for each of 64 workers.
+// The room that is enough for a page: 1024 bytes for each of its scenes, and at the end 81 for each of 64 workers. There is no heap.
 pub const ROOM: usize = 1024 * 1024 + 64 * 81;
 
 // The room that is enough for the sentence of a refusal.
 pub const SAID: usize = 1024;
 
-// Who has changed a mark word, and at which turn; 0 and 0 where nobody has.
+// Who has changed a mark word, and at which turn; 0 and 0 where nobody has: no Option, as turns are counted from 1 and the scenes' theorems
+// compare the two numbers (`by_nobody`, `noted_last`).
 #[derive(Clone, Copy, Debug, PartialEq, Eq, Hash)]
 pub struct Change {
     pub turn: u32,
@@ -69,7 +70,8 @@ pub struct Cursor {
     pub over: bool,
 }
 
-// Where a sheet stands, beside the board, and the scene that has brought it there.
+// Where a sheet stands, beside the board, and the scene that has brought it there. It has no `sheet::Desk` in it, though it has what one has: the
+// theorems of scenes speak of a stage's own fields.
 #[derive(Clone, Copy, Debug, PartialEq, Eq, Hash)]
 pub struct Stage {
     pub records: [Worker; 64],
@@ -80,7 +82,7 @@ pub struct Stage {
     pub scene: Scene,
 }
 
-// A page of the board's text: how many bytes it has, and whether it is the last one.
+// A page of the board's text: how many bytes it has, and whether it is the last one. Both are told of every page (`PagePut`).
 #[derive(Clone, Copy, Debug, PartialEq, Eq, Hash)]
 pub struct Page {
     pub written: usize,

@@ -45,7 +45,7 @@ fn start(pen: &mut Pen<'_>, c: Call)
 
 // ---- a refusal
 
-// What its number means (§6).
+// What its number means (§6): of every number, since a scene is told with whichever it has (`stopped`).
 #[tactic(auto, using(pen::proofs::Putting::pens), unfolding(pen::specs::Words::bytes, crate::specs::Telling::meaning))]
 fn means(pen: &mut Pen<'_>, number: u8)
     ensures { Writes pen.old (meaning number) pen.new }

@@ -29,7 +29,7 @@ pub struct Class {
     pub listed: usize,
 }
 
-// §18.4: the counts over all walks, and the number of refusal, or 0.
+// §18.4: the counts over all walks, and the number of refusal, or 0: for C, as floor's.
 #[repr(C)]
 #[derive(Clone, Copy, Debug, PartialEq, Eq, Hash)]
 pub struct OrdersOutcome {

@@ -64,7 +64,7 @@ pub fn class_refusal(words: &[u64], a: Worker, b: Worker, c: Worker) -> Result<(
     Ok(())
 }
 
-// §14.12: the words of the only bucket, by value.
+// §14.12: the words of the only bucket, by value. Eight are asked, as `size_refusal` has tested.
 pub fn words_of(lent: &[u64]) -> [u64; 8]
     requires { length lent.now ≡ 8 }
     ensures { result ≡ lent.now }

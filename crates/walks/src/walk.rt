@@ -47,7 +47,7 @@ pub fn sum(a: Walks, b: Walks) -> Walks
     }
 }
 
-// Whose record is left after a turn: refused, a turn leaves its own.
+// Whose record is left after a turn: refused, a turn leaves its own. Both are built into their caller: a walk calls them at every node.
 #[inline(always)]
 fn left_by(own: Worker, answer: Result<TurnDone, Refusal>) -> Worker
     ensures { result ≡ (tried_as own answer).worker }
@@ -58,7 +58,7 @@ fn left_by(own: Worker, answer: Result<TurnDone, Refusal>) -> Worker
     }
 }
 
-// §4.10: 1 for a lost swap, else 0; refused, a turn loses none.
+// §4.10: 1 for a lost swap, else 0; refused, a turn loses none. `own` is for the promise, which is of the record that is left as well.
 #[inline(always)]
 fn lost_by(own: Worker, answer: Result<TurnDone, Refusal>) -> u64
     ensures { result ≡ losses (tried_as own answer).said.report.action }
