@@ -289,10 +289,10 @@ module _
           done = eq-eqb o.stop 0 (sym did.comes.stop ∙ none)
 
           same_left : after left x ≡ o.left
-          same_left = λ i. record { words = did.comes.words i; handed = did.comes.desk none i }
+          same_left = λ i. record { words = did.comes.words i; handed = did.comes.desk i }
 
           next_ready : Ready next x
-          next_ready = rw (did.comes.desk none) (left_so.ready (sym did.comes.stop ∙ none))
+          next_ready = rw did.comes.desk (left_so.ready (sym did.comes.stop ∙ none))
 
           -- and the sheet is over
           pub sheet_over : next ≡ length sheet → Stands total pen later left (told_totals x)
@@ -325,7 +325,7 @@ module _
                     ∙ (rw (done, ne_eqb next (length sheet) other) at there);
                 enough = (let e = g.enough in omega (arith, n.0));
                 ready = next_ready;
-                room = rw (did.comes.desk none) room;
+                room = rw did.comes.desk room;
                 inside = n.1;
                 short = g.short;
               }

@@ -53,7 +53,7 @@ module _
         rw (← same)
         (record {
           lines = rw (append-nil g.so_far) g.lines;
-          comes = record { words = refl; stop = refl; desk = λ none. refl };
+          comes = record { words = refl; stop = refl; desk = refl };
         })
 
     module _ (inside : k < length turns) where
@@ -83,7 +83,7 @@ module _
           going_refused some =
               let isnot : eqb o.stop 0 ≡ false = ne_eqb o.stop 0 (λ none. some (did.comes.stop ∙ none)) in
               rw (← rw isnot at here)
-              (record { lines = then_lines; comes = record { words = did.comes.words; stop = did.comes.stop; desk = λ none. absurd (some none) } })
+              (record { lines = then_lines; comes = record { words = did.comes.words; stop = did.comes.stop; desk = did.comes.desk } })
 
           abbrev rest : Outcome
           rest = turns_done (drop (k + 1) turns) o.left
@@ -92,7 +92,7 @@ module _
           pub going_next : number ≡ 0 → Going turns board₀ d₀ pen₀ left x later (k + 1)
           going_next none =
               let done : eqb o.stop 0 ≡ true = eq-eqb o.stop 0 (sym did.comes.stop ∙ none) in
-              let same_left : after left x ≡ o.left = λ i. record { words = did.comes.words i; handed = did.comes.desk none i } in
+              let same_left : after left x ≡ o.left = λ i. record { words = did.comes.words i; handed = did.comes.desk i } in
               record {
                 so_far = g.so_far ++ o.lines;
                 lines = then_lines;
@@ -101,6 +101,6 @@ module _
                     ∙ ap (λ (l : List ℕ). outcome l rest.left rest.stop) (append_assoc g.so_far o.lines rest.lines)
                     ∙ (rw done at here);
                 ready =
-                    rw (did.comes.desk none) (ready_le _ _ _ (omega arith) (turn_ready (get_or turns k 0) board d _ g.ready));
+                    rw did.comes.desk (ready_le _ _ _ (omega arith) (turn_ready (get_or turns k 0) board d _ g.ready));
                 short = g.short;
               }

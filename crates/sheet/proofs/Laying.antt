@@ -62,10 +62,10 @@ module _
     pub open_refused : (why : Refusal) → r ≡ Err why → Comes (open_field p (after board d)) later d (number_of why)
     open_refused why is =
         let refused = rw is at (laid_refused p (after board d) later (laid_as d.floor p.workers r) whole) in
-        rw (← refused (number_some why)) (record { words = refl; stop = refl; desk = λ none. refl })
+        rw (← refused (number_some why)) (record { words = refl; stop = refl; desk = refl })
 
     pub open_done :
         (f : Floor) → r ≡ Ok f → length d.records ≡ 64 → Comes (open_field p (after board d)) later (desk_of f (replicate 64 idle) d.totals) 0
     open_done f is all =
         let done = rw is at (laid_done p (after board d) later (laid_as d.floor p.workers r) whole) in
-        rw (← done refl all) (record { words = refl; stop = refl; desk = λ none. refl })
+        rw (← done refl all) (record { words = refl; stop = refl; desk = refl })

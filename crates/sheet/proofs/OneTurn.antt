@@ -189,7 +189,7 @@ module _ (i : ℕ) (board : List ℕ) (d : Desk) where
       turn_refused why is =
           let isnot : eqb (number why) 0 ≡ false = ne_eqb (number why) 0 (number_some why) in
           rw (← come, is, isnot)
-          (record { lines = writes_none pen; comes = record { words = refl; stop = refl; desk = λ none. refl } })
+          (record { lines = writes_none pen; comes = record { words = refl; stop = refl; desk = refl } })
 
       module _ (x : TurnDone) (is : r ≡ Ok x) where
         reported : answer_of (tried_as w r).said ≡ Done x.report
@@ -208,7 +208,7 @@ module _ (i : ℕ) (board : List ℕ) (d : Desk) where
             → Does (turn_at_desk i (after board d)) pen last later (desk_of d.floor records t) 0
         turn_did last records t put counted lines =
             rw (← come, is)
-            (record { lines = rw counted at lines; comes = record { words = refl; stop = refl; desk = λ none. rw (put, counted) refl } })
+            (record { lines = rw counted at lines; comes = record { words = refl; stop = refl; desk = rw (put, counted) refl } })
 
 -- ---- turns, one after another
 

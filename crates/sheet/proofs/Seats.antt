@@ -6,6 +6,7 @@ use native.Mathlib.Omega.{arith}
 use mathlib.Core.List.{List}
 use lib.Dec.{eqb}
 use lib.ListN.{set}
+use lib.Seq.{set-get_or}
 use Rattle.turn.specs.Turn.{after}
 use borrow.Author.Tests.{leb-false, eqb-true}
 use Rattle.mark.proofs.Choices.{by_cases, passes}
@@ -13,11 +14,10 @@ use Rattle.turn.specs.declared.Worker.{Worker}
 use Rattle.std.specs.Prelude.{Result, Ok, Err}
 use Rattle.turn.specs.declared.refusal.Refusal.{Refusal}
 use Rattle.turn.specs.Number.{number}
-use Rattle.turn.proofs.Refusing.{number_some}
 use Rattle.engine.specs.declared.Floor.{Floor}
 use Rattle.engine.specs.declared.Begun.{Begun}
 use Rattle.engine.specs.declared.Asked.TheVariants.{Look, Insert, Remove}
-use Rattle.engine.specs.Calls.{started_as, asked_call, look_call, insert_call, remove_call}
+use Rattle.engine.specs.Calls.{blank, started_as, asked_call, look_call, insert_call, remove_call}
 use Rattle.engine.specs.declared.Seat.{Seat}
 use Rattle.engine.specs.Calls.{Started}
 use Rattle.engine.specs.Refusals.{start_number, wrong_sizes, no_worker}
@@ -99,7 +99,7 @@ module _
     -- a call that is refused
     pub call_refused : (why : Refusal) → r ≡ Err why → Comes (call_field c (after board d)) board d (number why)
     unfolding call_field
-    call_refused why is = rw (← was, is) (record { words = refl; stop = refl; desk = λ none. absurd (number_some why none) })
+    call_refused why is = rw (← was, is) (record { words = refl; stop = refl; desk = rw (set-get_or d.records c.worker blank) refl })
 
     module _ (b : Begun) (is : r ≡ Ok b) where
       -- a call that is started is for a worker that has a record
@@ -112,4 +112,4 @@ module _
       -- and is put there
       pub call_done : Comes (call_field c (after board d)) board (desk_of b.floor (set d.records c.worker b.worker) d.totals) 0
       unfolding call_field
-      call_done = rw (← was, is) (record { words = refl; stop = refl; desk = λ none. refl })
+      call_done = rw (← was, is) (record { words = refl; stop = refl; desk = refl })

@@ -15,11 +15,11 @@ use Rattle.sheet.specs.Listing.{Told, Ending, told_refusal, told_totals, listed_
 use Rattle.sheet.specs.Written.{Wrote}
 use Rattle.sheet.specs.Room.{longest}
 
--- what something at the desk comes to, beside its lines: this board and this number, and this desk if it was not refused
+-- what something at the desk comes to, beside its lines: this board, this desk and this number, refused or not
 pub record Comes (o : Outcome) (board : List ℕ) (d : Desk) (number : ℕ) : Type 0 where
   pub words : board ≡ o.left.words
   pub stop : number ≡ o.stop
-  pub desk : number ≡ 0 → d ≡ o.left.handed
+  pub desk : d ≡ o.left.handed
 
 -- the same with its lines: the pen before and after
 pub record Does (o : Outcome) (pen later : Pen) (board : List ℕ) (d : Desk) (number : ℕ) : Type 0 where
