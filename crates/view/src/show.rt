@@ -33,7 +33,7 @@ pub fn page(pen: &mut Pen<'_>, sheet: &[u8], board: &mut [u64], page: usize) -> 
     false
 }
 
-// The stage with the last scene.
+// The stage with the last scene. Nothing is counted: a sheet has no more scenes than bytes, and one.
 pub fn last(sheet: &[u8], board: &mut [u64]) -> Stage
     ensures { refusal_in result.scene ≡ all_refused (scenes_on sheet.now board.old) }
 {
