@@ -1,4 +1,4 @@
--- §12.2: two outcomes that meet the promise of a text's sheet, of a sheet's text or of a complaint are equal. Assumes nothing.
+-- §12.2: two outcomes that meet the promise of a text's sheet, of a sheet's text, of a complaint or of what has a number are equal. Assumes nothing.
 use Prim.Native.Nat.{ℕ}
 use mathlib.Core.Path.{◌≡◌}
 use mathlib.Core.List.{List}
@@ -8,9 +8,12 @@ use Rattle.schedule.specs.declared.Made.{Made}
 use Rattle.schedule.specs.declared.Recited.{Recited}
 use Rattle.schedule.specs.declared.Stopped.{Stopped}
 use Rattle.schedule.specs.declared.Malformed.{Malformed}
-use Rattle.std.proofs.Common.{Result, Ok, Err, sym}
+use Rattle.schedule.specs.declared.expected.Expected.{Expected}
+use Rattle.schedule.specs.declared.expected.UnknownNumber.{UnknownNumber}
+use Rattle.std.proofs.Common.{Result, Ok, Err, ap, sym, ◌∙◌}
 use Rattle.std.specs.Result.{is_ok}
 use Rattle.schedule.specs.Promises.{SheetMade, TextRecited, Complained, written_of, end_of, wrong_of, recited_of, place_of}
+use Rattle.schedule.specs.Numbers.{Numbered}
 use Rattle.schedule.proofs.NumberOf.{some_number, one_number}
 
 -- what is made of a text is known by its three parts
@@ -58,3 +61,10 @@ pub complaint_determined :
     → Complained text at what out other t
     → (later ≡ other) × (r ≡ t)
 complaint_determined text at what out later other r t p q = puts_determined p.lines q.lines
+
+-- what a number is of
+pub numbered_determined : (n : ℕ) (r t : Result Expected UnknownNumber) → Numbered n r → Numbered n t → r ≡ t
+numbered_determined n (Ok e) (Ok f) p q = ap Ok (one_number e f (p ∙ sym q))
+numbered_determined n (Ok e) (Err v) p q = absurd (q.1 e p)
+numbered_determined n (Err u) (Ok f) p q = absurd (p.1 f q)
+numbered_determined n (Err u) (Err v) p q = let same = p.0 ∙ sym q.0 in λ i. Err (record { 0 = same i })
