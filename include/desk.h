@@ -15,9 +15,9 @@
    and a floor of its own and use them while others use theirs; one board with its list and its index belongs to one thread at a time.
    Workers are no threads: which of them moves is what the caller says, turn by turn.
 
-   What each function leaves and answers is promised in crates/floor/src/lib.rt, that of desk_orders in crates/walks/src/lib.rt, and proved.
-   Nothing checks the declarations below against these files but the programs of tests/c, which see each size, each offset and each field
-   arrive. Each of the two crates is an archive: libfloor.a has all functions but desk_orders, libwalks.a has that one. */
+   What each function leaves and answers is promised in crates/floor_c/src/lib.rt, that of desk_orders in crates/walks_c/src/lib.rt, and
+   proved. Nothing checks the declarations below against these files but the programs of tests/c, which see each size, each offset and each
+   field arrive. Each of the two crates is an archive: libfloor.a has all functions but desk_orders, libwalks.a has that one. */
 #ifndef DESK_H
 #define DESK_H
 

@@ -82,7 +82,7 @@ pub struct Stage {
     pub scene: Scene,
 }
 
-// A page of the board's text: how many bytes it has, and whether it is the last one. Both are told of every page (`PagePut`).
+// A page of the board's text: how many bytes it has, and whether it is the last one. Both are told of every page (`PageWritten`).
 #[derive(Clone, Copy, Debug, PartialEq, Eq, Hash)]
 pub struct Page {
     pub written: usize,
