@@ -29,7 +29,8 @@ handed_back :
 handed_back (Ok p) (Ok q) written floor records stop = ap Ok (λ i. record { records = records i; floor = floor i; written = written i })
 handed_back (Ok p) (Err s) written floor records stop = absurd (number_some s.why (sym stop))
 handed_back (Err s) (Ok p) written floor records stop = absurd (number_some s.why stop)
-handed_back (Err s) (Err u) written floor records stop = ap Err (λ i. record { why = number_same s.why u.why stop i; written = written i })
+handed_back (Err s) (Err u) written floor records stop =
+    ap Err (λ i. record { records = records i; floor = floor i; written = written i; why = number_same s.why u.why stop i })
 
 -- a sheet on a lent board: the board, the buffer, and all that is handed back
 pub stand_determined :

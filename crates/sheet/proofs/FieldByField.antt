@@ -6,7 +6,7 @@ use mathlib.Core.List.{List, [], ◌++◌, append_assoc}
 use native.Mathlib.Nat.{not-suc-le-zero}
 use native.Mathlib.Omega.{arith}
 use lib.Dec.{eqb}
-use lib.ListN.{length, length-set, length-append, length-take, length-drop, length-replicate}
+use lib.ListN.{length, take, length-set, length-append, length-take, length-drop, length-replicate}
 use borrow.Author.Tests.{eq-eqb, ne_eqb, lt-ltb, le-ltb}
 use Rattle.mark.proofs.Choices.{by_cases}
 use Rattle.turn.specs.Turn.{After, after}
@@ -30,7 +30,7 @@ use Rattle.sheet.specs.declared.Span.{Span}
 use Rattle.sheet.specs.declared.Field.TheVariants.{Opening, Calling, Turning}
 use Rattle.sheet.specs.Fields.{Whole, Refused, read_field}
 use Rattle.sheet.specs.Line.{totals_line, refusal_line}
-use Rattle.sheet.specs.Play.{Desk, shut_desk, Outcome, seat_of, record_of, asked, call_field, opened, open_field, turns_in, field_done}
+use Rattle.sheet.specs.Play.{Desk, shut_desk, Outcome, seat_of, record_of, asked, call_field, opened, open_field, turns_in, turns_done, field_done}
 use Rattle.sheet.specs.Listing.{Told, told, Ending, listed_first, told_refusal, refused, told_totals, over, after_field, one_field, fields_from, played}
 use Rattle.sheet.specs.Room.{longest, due, Ready}
 use Rattle.sheet.specs.declared.Played.{Played}
@@ -62,6 +62,26 @@ first_first l m e =
 
 -- ---- what a field leaves
 
+-- a call makes 37 bytes of listing due at most, and takes 13 of the sheet at least, however long the sheet is
+module _ (sheet : List ℕ) (at next : ℕ) (board : List ℕ) (d : Desk) (c : Call) (is : read_field sheet at ≡ Whole (Calling c) next) where
+  call_pays : (written : ℕ) → 13 * due (call_field c (after board d)).left.handed written + 37 * at ≤ 13 * due d written + 37 * next
+  unfolding call_field
+  call_pays written =
+      let long = whole_call sheet at c next is in
+      let more = busy_set_le d.records c.worker (asked board (seat_of d c.worker) (record_of d c.worker) c).worker in
+      omega (arith, long, more)
+
+  -- where 13 bytes of what is due are at most 37 of the sheet, so they are after it
+  pub room_called : (written : ℕ) → 13 * due d written ≤ 37 * at → 13 * due (call_field c (after board d)).left.handed written ≤ 37 * next
+  room_called written room = let pay = call_pays written in omega (arith, pay, room)
+
+-- the turns of a field lie within it
+turns_inside :
+    (sheet : List ℕ) (at next : ℕ) (span : Span) → read_field sheet at ≡ Whole (Turning span) next → length (turns_in sheet span) ≤ next - at
+turns_inside sheet at next span is =
+    let w = whole_turns sheet at span next is in
+    simp (length-take, length-drop) (omega (arith, w.0, w.1, w.2))
+
 module _ (sheet : List ℕ) (at next : ℕ) (board : List ℕ) (d : Desk) (was : Ready at d) (short : length sheet ≤ 16384) where
   -- it is ready for the next, and 37 bytes of listing are paid by 13 of the sheet, which is the least that a call takes
   record Left (o : Outcome) : Type 0 where
@@ -90,9 +110,6 @@ module _ (sheet : List ℕ) (at next : ℕ) (board : List ℕ) (d : Desk) (was :
   unfolding call_field
   called_left c is =
       let n = whole_next sheet at (Calling c) next is in
-      let long = whole_call sheet at c next is in
-      let x = asked board (seat_of d c.worker) (record_of d c.worker) c in
-      let more = busy_set_le d.records c.worker x.worker in
       record {
         ready = λ none.
             let known = asked_known board (seat_of d c.worker) (record_of d c.worker) c none in
@@ -101,14 +118,13 @@ module _ (sheet : List ℕ) (at next : ℕ) (board : List ℕ) (d : Desk) (was :
               all = simp length-set was.all;
               past = rw (asked_workers board (seat_of d c.worker) (record_of d c.worker) c) (idle_set _ _ _ _ known.0 was.past);
             };
-        pays = omega (arith, long, more);
+        pays = call_pays sheet at next board d c is 0;
       }
 
   turned_left : (span : Span) → read_field sheet at ≡ Whole (Turning span) next → Left (field_done sheet (Turning span) (after board d))
   turned_left span is =
       let n = whole_next sheet at (Turning span) next is in
-      let w = whole_turns sheet at span next is in
-      let long : length (turns_in sheet span) ≤ next - at = simp (length-take, length-drop) (omega (arith, w.0, w.1, w.2)) in
+      let long = turns_inside sheet at next span is in
       let pay = turns_pay (turns_in sheet span) board d at was (omega (arith, long, n.0, n.1, short)) in
       record {
         ready = λ none. ready_le _ next _ (omega (arith, long, n.0)) (turns_ready (turns_in sheet span) board d at was);
@@ -234,6 +250,20 @@ module _
     here =
         let some : 1 ≤ g.more = omega (arith, g.enough, g.inside) in
         ap (listed_first g.so_far) (sym (fields_here g.more sheet at (after board d) some)) ∙ g.same
+
+    -- between two turns of a field, too, 13 bytes of what is due are at most 37 of the sheet, of what stands before the field
+    pub room_within :
+        (span : Span) (next turns : ℕ)
+        → read_field sheet at ≡ Whole (Turning span) next
+        → let o = turns_done (take turns (turns_in sheet span)) (after board d) in
+        13 * due o.left.handed (length (g.so_far ++ o.lines)) ≤ 37 * at
+    room_within span next turns is =
+        let n = whole_next sheet at (Turning span) next is in
+        let long = turns_inside sheet at next span is in
+        let some = take turns (turns_in sheet span) in
+        let fewer : length some ≤ length (turns_in sheet span) = simp length-take (omega arith) in
+        let pay = turns_pay some board d at g.ready (omega (arith, fewer, long, n.0, n.1, g.short)) in
+        rw length-append (omega (arith, pay, g.room))
 
     -- it cannot be read
     pub malformed : read_field sheet at ≡ Refused at → Stands total pen now board (told_refusal 8 at)

@@ -1,8 +1,7 @@
 -- What the public functions promise (§12.1), the program's `listed`, and of the private ones those whose promise has several parts.
-use Rattle.std.specs.Prelude.{ℕ, ◌+◌, ◌≤◌, ◌≡◌, Result, Ok, Err, List, length, replicate}
+use Rattle.std.specs.Prelude.{ℕ, ◌+◌, ◌≤◌, ◌≡◌, Result, Ok, Err, List, length}
 use Rattle.turn.specs.declared.Worker.{Worker}
 use Rattle.turn.specs.Number.{number}
-use Rattle.turn.specs.Worker.{idle}
 use Rattle.turn.specs.Turn.{after}
 use Rattle.engine.specs.declared.Floor.{Floor}
 use Rattle.pen.specs.declared.Pen.{Pen}
@@ -10,7 +9,7 @@ use Rattle.pen.specs.Written.{Writes}
 use Rattle.sheet.specs.declared.Stop.{Stop}
 use Rattle.sheet.specs.declared.Played.{Played}
 use Rattle.sheet.specs.declared.Stopped.{Stopped}
-use Rattle.sheet.specs.Play.{Desk, shut_floor, Outcome}
+use Rattle.sheet.specs.Play.{Desk, Outcome}
 use Rattle.sheet.specs.Listing.{Told, Ending, told_refusal, told_totals, listed_first, played, words_asked, listing}
 use Rattle.sheet.specs.Written.{Wrote}
 use Rattle.sheet.specs.Room.{longest}
@@ -38,15 +37,15 @@ pub record Stands (e : Ending) (pen later : Pen) (board : List ℕ) (t : Told) :
   pub same : listed_first so_far (after board t) ≡ e
   pub room : length so_far + length t.lines ≤ longest
 
--- ---- what a sheet hands back: of one that is refused it is known that its desk is shut
+-- ---- what a sheet hands back
 
 abbrev pub floor_of : Result Played Stopped → Floor
 floor_of (Ok p) = p.floor
-floor_of (Err s) = shut_floor
+floor_of (Err s) = s.floor
 
 abbrev pub records_of : Result Played Stopped → List Worker
 records_of (Ok p) = p.records
-records_of (Err s) = replicate 64 idle
+records_of (Err s) = s.records
 
 abbrev pub written_of : Result Played Stopped → ℕ
 written_of (Ok p) = p.written

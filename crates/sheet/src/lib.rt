@@ -63,11 +63,13 @@ pub struct Played {
     pub written: usize,
 }
 
-// Why a sheet was refused, and how long the listing is. The desk is shut then.
+// Where a sheet that is refused leaves the desk: the records and the floor of a shut one; how long the listing is; and why it was refused.
 #[derive(Clone, Copy, Debug, PartialEq, Eq, Hash)]
 pub struct Stopped {
-    pub why: Refusal,
+    pub records: [Worker; 64],
+    pub floor: Floor,
     pub written: usize,
+    pub why: Refusal,
 }
 
 // What the fields done so far have left, beside the board. Its records stay in one place while a sheet is played.
@@ -130,9 +132,13 @@ pub fn stand(sheet: &[u8], board: &mut [u64], out: &mut [u8; ROOM]) -> Result<Pl
         }
         Err(stop) => {
             line::refused(&mut pen, stop.why, stop.offset);
+            let shut = Desk::shut();
+            let records = shut.records;
             Err(Stopped {
-                why: stop.why,
+                records,
+                floor: shut.floor,
                 written: pen.at,
+                why: stop.why,
             })
         }
     }

@@ -1,4 +1,5 @@
-use Rattle.std.proofs.Common.{rules, refl, ◌∙◌}
+use Rattle.std.proofs.Common.{rules, refl, ap, ◌∙◌}
+use Rattle.sheet.specs.Play.{Desk}
 use Rattle.sheet.proofs.FieldByField.{sheet_left}
 use Rattle.sheet.proofs.Writing.{writes_lent}
 use Rattle.sheet.proofs.stand.Goals as goal
@@ -16,5 +17,8 @@ returns-in-Ok c =
 
 pub returns-in-Err : goal.returns-in-Err
 returns-in-Err c =
-    let x = sheet_left _ _ _ _ _ _ _ c.in-Err.ensures c.refused.ensures refl (search rules) refl refl refl refl in
+    let shut = c.shut-shut.ensures in
+    let floor = ap (λ (d : Desk). d.floor) shut in
+    let records = ap (λ (d : Desk). d.records) shut in
+    let x = sheet_left _ _ _ _ _ _ _ c.in-Err.ensures c.refused.ensures refl (search rules) refl floor records refl in
     record { whole = x.0; fits = x.1 }
