@@ -2,10 +2,10 @@
 use Prim.Native.Nat.{ℕ, zero, suc, ◌-◌, ◌≤◌, ◌<◌}
 use mathlib.Core.Path.{◌≡◌, refl, sym, ap, ◌∙◌}
 use mathlib.Core.List.{List, [], ◌∷◌, ◌++◌, map}
-use native.Mathlib.Nat.{not-suc-le-zero, le_of_suc-le-suc, zero-sub, sub-zero, suc-sub-suc}
+use native.Mathlib.Nat.{zero-sub, sub-zero, suc-sub-suc}
 use lib.ListN.{length, set, take, drop, replicate}
 use lib.Seq.{drop-set-lt}
-use Rattle.std.proofs.lemmas.List.{map-append, take-append-drop}
+use Rattle.std.proofs.lemmas.List.{drop_all, map-append, take-append-drop}
 use Rattle.turn.specs.declared.Worker.{Worker}
 use Rattle.turn.specs.Worker.{idle}
 use Rattle.turn.specs.Asleep.{slept}
@@ -50,15 +50,17 @@ past_sleep n ws past = rw past (idles_sleep (64 - n))
 pub idle_turn : (n : ℕ) (ws : List Worker) (i : ℕ) (w : Worker) → i < n → IdleFrom n ws → IdleFrom n (after_turn ws i w)
 idle_turn n ws i w before past = idle_set n (map slept ws) i w before (drop_slept n ws ∙ past_sleep n ws past ∙ past)
 
--- all of a list have slept
-firsts_all : (k : ℕ) (ws : List Worker) → length ws ≤ k → firsts_slept k ws ≡ map slept ws
+rest_sleeps : (n : ℕ) (ws : List Worker) → map slept (drop n ws) ≡ drop n ws → firsts_slept n ws ≡ map slept ws
 unfolding firsts
-firsts_all zero [] over = refl
-firsts_all zero (w ∷ ws) over = absurd (not-suc-le-zero over)
-firsts_all (suc k) [] over = refl
-firsts_all (suc k) (w ∷ ws) over = ap (λ (vs : List Worker). slept w ∷ vs) (firsts_all k ws (le_of_suc-le-suc over))
+rest_sleeps zero ws same = sym same
+rest_sleeps (suc n) [] same = refl
+rest_sleeps (suc n) (w ∷ ws) same = ap (λ (vs : List Worker). slept w ∷ vs) (rest_sleeps n ws same)
 
--- and of all records, where those before them have
+-- and all have slept where those before them have
+pub firsts_all : (n : ℕ) (ws : List Worker) → IdleFrom n ws → firsts_slept n ws ≡ map slept ws
+firsts_all n ws past = rest_sleeps n ws (past_sleep n ws past)
+
+-- also where those before them were gone over by themselves
 pub all_slept :
     (n k : ℕ) (ws asleep : List Worker)
     → IdleFrom n ws
@@ -66,7 +68,7 @@ pub all_slept :
     → length (take n ws) ≤ k
     → asleep ++ drop n ws ≡ map slept ws
 all_slept n k ws asleep past so over =
-    rw (so, firsts_all k (take n ws) over)
+    rw (so, rest_sleeps k (take n ws) (rw (drop_all k (take n ws) over) refl))
     (ap (λ (l : List Worker). map slept (take n ws) ++ l) (sym (past_sleep n ws past))
     ∙ sym (map-append slept (take n ws) (drop n ws))
     ∙ ap (map slept) (take-append-drop n ws))
