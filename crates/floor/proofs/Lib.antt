@@ -1,3 +1,4 @@
+pub mod Acting
 pub mod Acts
 pub mod Beside
 pub mod Determined

@@ -1,3 +1,4 @@
+pub mod Acted
 pub mod Lent
 pub mod Running
 pub mod Told

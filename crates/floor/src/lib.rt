@@ -7,7 +7,7 @@ ghost use Rattle.engine.specs.Calls.{asked_call};
 ghost use Rattle.engine.specs.Promises.{Shown};
 ghost use Rattle.floor.specs.Promises.{FloorOpened, StartLeft, TurnLeft, RetireLeft, RunLeft, MoveLeft, PartShown, ShowNumbered, CountLeft, TotalLeft, NextLeft};
 
-use engine::{Asked, Floor, Plan, Seat, Totals, tally};
+use engine::{Asked, Floor, Plan, Totals, tally};
 use turn::{Worker, record, refusal};
 
 mod list; // records out of the list and back, and a turn of one of them
@@ -102,7 +102,7 @@ pub fn desk_open_floor(
 {
     match hall::open_floor(board, index, floor, records.len(), plan) {
         Ok(floor) => {
-            records.fill(record::idle());
+            list::lap(records, |_, _| record::idle());
             Outcome { floor, refusal: 0 }
         }
         Err(why) => Outcome {
@@ -123,19 +123,8 @@ pub fn desk_start(
 ) -> Outcome
     ensures { StartLeft asked_call board.now records.old floor worker asked records.new result }
 {
-    let seat = Seat {
-        floor,
-        listed: records.len(),
-        worker,
-    };
-    match engine::start(board, seat, take_at(records, worker), asked) {
-        Ok(begun) => {
-            list::put_at(records, worker, begun.worker);
-            Outcome {
-                floor: begun.floor,
-                refusal: 0,
-            }
-        }
+    match list::begin_at(board, records, floor, worker, asked) {
+        Ok(floor) => Outcome { floor, refusal: 0 },
         Err(why) => Outcome {
             floor,
             refusal: why.into(),
@@ -166,18 +155,14 @@ pub fn desk_retire(
 ) -> u8
     ensures { RetireLeft board.old records.old index.old floor worker board.new records.new index.new result }
 {
-    let seat = Seat {
+    refusal::number(list::act(
+        board,
+        records,
+        index,
         floor,
-        listed: records.len(),
         worker,
-    };
-    match hall::retire(board, index, seat, take_at(records, worker)) {
-        Ok(retired) => {
-            list::put_at(records, worker, retired);
-            0
-        }
-        Err(why) => why.into(),
-    }
+        |board, index, seat, w| { Ok((hall::retire(board, index, seat, w)?, ())) },
+    ))
 }
 
 // §1.1: runs a list of turns, each a worker's number, until one is refused.
