@@ -10,10 +10,11 @@ use Rattle.turn.specs.Worker.{is_idle}
 use Rattle.turn.specs.Asleep.{slept}
 use Rattle.turn.specs.Turn.{After, try_turn}
 use Rattle.turn.proofs.Asleep.{slept_idles}
+use Rattle.turn.proofs.Kept.{not_idle}
 use Rattle.engine.specs.Calls.{losses}
 use Rattle.walks.specs.declared.Walks.{Walks}
 use Rattle.walks.specs.Orders.{one_walk, together}
-use Rattle.walks.specs.Walk.{Walking, three_idle, begun_by, walks}
+use Rattle.walks.specs.Walk.{Walking, three_idle, begun_by, begun, walks}
 
 module _ (words : List ℕ) (a b c : Worker) (lost : ℕ) where
   -- where all three are idle there is one walk, which is finished
@@ -44,6 +45,26 @@ module _ (words : List ℕ) (a b c : Worker) (lost : ℕ) where
   walk_on (suc depth) one two three both all busy some first second third sum sums =
       let same : suc depth - 1 ≡ depth = omega arith in
       rw (busy, ← same, ← first, ← second, ← third) (sums ∙ ap (λ (x : Walks). together x three) sum)
+
+  -- where somebody is busy and turns are left, each of the three goes on with one
+  pub walk_goes :
+      (depth : ℕ) (r : Walks)
+      → three_idle a b c ≡ false
+      → (depth ≡ 0 → ⊥)
+      → r ≡ begun (walks (depth - 1)) words a b c lost
+      → r ≡ walks depth words a b c lost
+  unfolding walks
+  walk_goes zero r busy some goes = absurd (some refl)
+  walk_goes (suc depth) r busy some goes =
+      let same : suc depth - 1 ≡ depth = omega arith in rw (busy, ← same) goes
+
+-- whose record is of a call is not idle
+pub kind_busy : (w : Worker) → (w.kind ≡ 0 → ⊥) → is_idle w ≡ false
+kind_busy w call = not_idle w (λ idle. call (ap (λ (v : Worker). v.kind) idle))
+
+-- so somebody of three is busy where the first of them is at a call
+pub kind_some : (a b c : Worker) → (a.kind ≡ 0 → ⊥) → three_idle a b c ≡ false
+kind_some a b c call = rw (kind_busy a call) refl
 
 -- nobody is idle, or busy, for having slept
 pub idle_slept : (a b c : Worker) → three_idle a (slept b) (slept c) ≡ three_idle a b c

@@ -1,9 +1,11 @@
 // The recursion over the depth that is left.
-ghost use Rattle.std.specs.Prelude.{◌≡◌, ◌+◌, ◌≤◌};
+ghost use Rattle.std.specs.Prelude.{◌≡◌, ◌+◌, ◌-◌, ◌≤◌};
+ghost use Rattle.turn.specs.Worker.{is_idle};
+ghost use Rattle.turn.specs.Asleep.{slept};
 ghost use Rattle.turn.specs.Turn.{tried_as};
 ghost use Rattle.engine.specs.Calls.{losses};
 ghost use Rattle.walks.specs.Orders.{no_walks, one_walk, together};
-ghost use Rattle.walks.specs.Walk.{three_idle, begun_by, walks, Fit};
+ghost use Rattle.walks.specs.Walk.{three_idle, begun_by, begun, walks, Fit};
 
 use crate::Walks;
 use engine::tally;
@@ -69,7 +71,17 @@ fn lost_by(own: Worker, answer: Result<TurnDone, Refusal>) -> u64
     }
 }
 
+// §3.3: whether a worker is idle. This and `are_idle` are called and not built in: a walk asks them at every node, and most of those who are
+// asked about are busy, which the kind alone tells. Built in, all fields would be read before the kind is tested.
+#[inline(never)]
+fn is_idle(w: Worker) -> bool
+    ensures { result ≡ is_idle w }
+{
+    record::is_idle(w)
+}
+
 // §18.1: whether all three are idle.
+#[inline(never)]
 pub fn are_idle(a: Worker, b: Worker, c: Worker) -> bool
     ensures { result ≡ three_idle a b c }
 {
@@ -79,6 +91,7 @@ pub fn are_idle(a: Worker, b: Worker, c: Worker) -> bool
 // §14.12, §18.3: the walks that begin with a turn of `own`: it has its turn, and where somebody is busy after that, and turns are left, they go
 // on with a turn of each. Of who is idle there are none. The others sleep through the turn; a walk that ends with it need not count that. The
 // three stand one by one, and in no array, since each turn passes them on in another order.
+#[cycle(begun_by)]
 pub fn begun_by(
     depth: usize,
     words: [u64; 8],
@@ -90,19 +103,36 @@ pub fn begun_by(
     requires { lost + depth ≤ 23 }
     ensures { result ≡ begun_by (walks depth) words own next last lost }
 {
-    if record::is_idle(own) {
+    if own.kind == record::IDLE && is_idle(own) {
         return none();
     }
     let mut after = words;
     let answer = turn::try_turn(&mut after, 0, own);
     let left = left_by(own, answer);
     let so_far = lost + lost_by(own, answer);
-    if are_idle(left, next, last) {
+    if left.kind == record::IDLE && are_idle(left, next, last) {
         return one(true, so_far);
     }
     if depth == 0 {
         return one(false, so_far);
     }
+    going_on(depth, after, left, next, last, so_far)
+}
+
+// §18.3: the walks that go on after a turn, which has left the words `after` and the record `left`: the others have slept through it, and now
+// each of the three has one. It stands apart from `begun_by`, since a walk that ends there, as two in three do, would make room for all of this.
+#[cycle(begun_by)]
+fn going_on(
+    depth: usize,
+    after: [u64; 8],
+    left: Worker,
+    next: Worker,
+    last: Worker,
+    so_far: u64,
+) -> Walks
+    requires { (1 ≤ depth) × (so_far + depth ≤ 24) }
+    ensures { result ≡ begun (walks (depth - 1)) after left (slept next) (slept last) so_far }
+{
     let next = sleep::slept(next);
     let last = sleep::slept(last);
     let first = begun_by(depth - 1, after, left, next, last, so_far);
